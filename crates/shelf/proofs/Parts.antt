@@ -1,0 +1,48 @@
+-- Fronts of lists, and what a write to a front leaves.
+use mathlib.Core.Path.{_≡_, refl, sym, _∙_, ap}
+use mathlib.Core.List.{List, _++_}
+use mathlib.Core.Logic.{inl, inr}
+use Prim.Native.Nat.{ℕ, _-_, _≤_, min}
+use native.Mathlib.Omega.{arith}
+use lib.ListN.{length, take, drop}
+use borrow.Rule.Slice.PartMut.{postOf}
+use Rattle.std.proofs.shelf.Lists.{take-all, take-at, length-take, length-append, length-drop}
+use Rattle.std.proofs.shelf.Tests.{cases-lt}
+use Rattle.shelf.specs.Meaning.{State, limit}
+
+pub take-min : {X : Type 0} (n : ℕ) (xs : List X) → take (min n (length xs)) xs ≡ take n xs
+take-min {X} n xs = elim (cases-lt n (length xs)) [
+  | inl h ↦ (let e : min n (length xs) ≡ n = omega arith in ap (λ (k : ℕ). take k xs) e)
+  | inr h ↦ (let e : min n (length xs) ≡ length xs = omega arith in ap (λ (k : ℕ). take k xs) e ∙ take-all (length xs) xs (omega arith) ∙ sym (take-all n xs h))
+]
+
+-- `&xs[0..k]`, where k is the smaller of n and the length
+pub front-is : {X : Type 0} (n k : ℕ) (xs : List X) → k ≡ min n (length xs) → take (k - 0) xs ≡ take n xs
+front-is {X} n k xs e = let z : k - 0 ≡ min n (length xs) = omega arith in ap (λ (j : ℕ). take j xs) z ∙ take-min n xs
+
+-- the length of a front
+pub front-length : {X : Type 0} (n : ℕ) (xs ys : List X) → ys ≡ take n xs → length ys ≤ n
+front-length {X} n xs ys e = omega (arith, ap length e, length-take n xs)
+
+-- the buffer after a write to its front
+pub stocked-length : (given buf : List ℕ) → length given ≤ length buf → length (given ++ drop (length given) buf) ≡ length buf
+stocked-length given buf h = simp (length-append, length-drop) (omega arith)
+
+pub stocked-bytes : (cap : ℕ) (given buf : List ℕ) → length given ≤ cap → take (min (length given) cap) (given ++ drop (length given) buf) ≡ given
+stocked-bytes cap given buf h =
+    let m : min (length given) cap ≡ length given = omega arith in
+    simp m (take-at given (drop (length given) buf) (length given) refl)
+
+-- what the borrow checker calls the rest behind the front
+pub post-is : (given buf after : List ℕ) → after ≡ given → after ++ postOf 0 (length given - 0) buf ≡ given ++ drop (length given) buf
+post-is given buf after e =
+    let z : length given - 0 ≡ length given = omega arith in
+    ap (λ (xs : List ℕ). xs ++ postOf 0 (length given - 0) buf) e ∙ ap (λ (k : ℕ). given ++ drop k buf) z
+
+-- a shelf over a buffer whose front was written
+pub stocked-state : (given buf all : List ℕ) (new : ℕ) → all ≡ given ++ drop (length given) buf → length given ≤ min (length buf) limit
+    → _≡_ {A = State} (record { bytes = take (min (length given) limit) all; mark = new; room = min (length all) limit }) (record { bytes = given; mark = new; room = min (length buf) limit })
+stocked-state given buf all new e h =
+    let bytes : take (min (length given) limit) all ≡ given = ap (take (min (length given) limit)) e ∙ stocked-bytes limit given buf (omega arith) in
+    let room : min (length all) limit ≡ min (length buf) limit = ap (λ (xs : List ℕ). min (length xs) limit) e ∙ ap (λ (n : ℕ). min n limit) (stocked-length given buf (omega arith)) in
+    λ i. record { bytes = bytes i; mark = new; room = room i }

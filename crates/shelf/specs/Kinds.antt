@@ -1,0 +1,48 @@
+-- What each kind of source or shelf means.
+use mathlib.Core.Path.{_≡_}
+use mathlib.Core.List.{List, _++_}
+use Prim.Native.Nat.{ℕ, _+_, min, max}
+use lib.ListN.{length, take, drop}
+use denote.Ref.{now}
+use Rattle.std.specs.declared.result.Result.{Result}
+use Rattle.std.specs.declared.result.Result.the-variants.{Ok, Err}
+use Rattle.shelf.specs.Meaning.{limit}
+use Rattle.shelf.specs.declared.refusal.Refusal.{Refusal}
+use Rattle.shelf.specs.declared.fixed.FixedFile.{FixedFile}
+use Rattle.shelf.specs.declared.memory.MemoryShelf.{MemoryShelf}
+use Rattle.shelf.specs.declared.joined.JoinedShelf.{JoinedShelf}
+
+-- a fixed file: the first 2^40 bytes of the client's data
+abbrev pub fixedBytes : FixedFile → List ℕ
+fixedBytes f = take limit (now (f .«data»))
+
+abbrev pub fixedStamp : FixedFile → ℕ
+fixedStamp f = f .stamp
+
+-- a memory shelf: the front of the client's buffer, as long as the last accepted restock
+abbrev pub memoryBytes : MemoryShelf → List ℕ
+memoryBytes s = take (min (s .count) limit) (now (s .buffer))
+
+abbrev pub memoryStamp : MemoryShelf → ℕ
+memoryStamp s = s .stamp
+
+-- its capacity is the buffer's length, at most 2^40
+abbrev pub memoryCapacity : MemoryShelf → ℕ
+memoryCapacity s = min (length (now (s .buffer))) limit
+
+-- the client's buffer after a restock: an accepted one writes the first bytes, as many as were given
+abbrev pub bufferAfter : List ℕ → List ℕ → Result Unit Refusal → List ℕ
+bufferAfter buffer given (Ok _) = given ++ drop (length given) buffer
+bufferAfter buffer given (Err _) = buffer
+
+-- a joined shelf: the first 2^40 bytes of the first's followed by the second's
+abbrev pub joinedBytes : {A B : Type 0} → (A → List ℕ) → (B → List ℕ) → JoinedShelf A B → List ℕ
+joinedBytes a b s = take limit (a (s .first) ++ b (s .second))
+
+-- its stamp is the larger of the two
+abbrev pub joinedStamp : {A B : Type 0} → (A → ℕ) → (B → ℕ) → JoinedShelf A B → ℕ
+joinedStamp a b s = max (a (s .first)) (b (s .second))
+
+-- its capacity is their sum, at most 2^40
+abbrev pub joinedCapacity : {A B : Type 0} → (A → ℕ) → (B → ℕ) → JoinedShelf A B → ℕ
+joinedCapacity a b s = min (a (s .first) + b (s .second)) limit

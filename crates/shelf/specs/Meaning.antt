@@ -1,0 +1,56 @@
+-- What a source answers and what a restock leaves, over the meaning alone: a list of bytes, a stamp, a capacity.
+use mathlib.Core.Path.{_≡_}
+use mathlib.Core.List.{List}
+use Prim.Native.Nat.{ℕ, _+_, _^_, _<_, _≤_}
+use lib.ListN.{length, take, drop}
+use Rattle.std.specs.Results.{Cases}
+use Rattle.std.specs.declared.result.Result.{Result}
+use Rattle.shelf.specs.declared.refusal.Refusal.{Refusal}
+use Rattle.shelf.specs.Refusals.{Says}
+use Rattle.shelf.specs.Refusals.Place.{stamp, capacity, held}
+
+-- the most bytes that a source holds, and the largest capacity of a shelf
+abbrev pub limit : ℕ
+limit = 2 ^ 40
+
+-- an accepted read: the bytes from `place` on fill the whole buffer
+pub record Filled (bytes : List ℕ) (place : ℕ) (before after : List ℕ) : Type 0 where
+  pub inside : place + length before ≤ length bytes
+  pub filled : after ≡ take (length before) (drop place bytes)
+
+-- a refused read: it reaches past the end, and the buffer stays
+pub record PastEnd (bytes : List ℕ) (place : ℕ) (before after : List ℕ) (e : Refusal) : Type 0 where
+  pub outside : length bytes < place + length before
+  pub same : after ≡ before
+  pub says : Says e 3 held (length bytes)
+
+-- what a read from `place` answers, into a buffer that held `before` and then holds `after`
+abbrev pub Reads : List ℕ → ℕ → List ℕ → List ℕ → Result Unit Refusal → Type 0
+Reads bytes place before after r = Cases r (λ _. Filled bytes place before after) (PastEnd bytes place before after)
+
+-- what a restock of `size` bytes under `new` asks of a shelf of this room and stamp
+pub record Fit (room mark size new : ℕ) : Type 0 where
+  pub above : mark < new
+  pub fits : size ≤ room
+
+-- why a restock is refused: a stamp that is not above the shelf's comes before a length over its capacity
+pub data Unfit (room mark size new : ℕ) (e : Refusal) : Type 0 where
+  not-above : new ≤ mark → Says e 1 stamp mark → Unfit room mark size new e
+  too-long : mark < new → room < size → Says e 2 capacity room → Unfit room mark size new e
+
+-- what a shelf means: its bytes, its stamp and its capacity
+pub record State : Type 0 where
+  pub bytes : List ℕ
+  pub mark : ℕ
+  pub room : ℕ
+
+-- the state of a shelf, by what its kind means
+abbrev pub state : {S : Type 0} → (S → List ℕ) → (S → ℕ) → (S → ℕ) → S → State
+state bytes mark room s = record { bytes = bytes s; mark = mark s; room = room s }
+
+-- what a restock with `given` under `new` answers, and how it takes a shelf from one state to the next
+abbrev pub Restocks : State → List ℕ → ℕ → State → Result Unit Refusal → Type 0
+Restocks s given new t r =
+    Cases r
+    (λ _. Fit (s .room) (s .mark) (length given) new × (t ≡ record { bytes = given; mark = new; room = s .room }))
+    (λ e. Unfit (s .room) (s .mark) (length given) new e × (t ≡ s))

@@ -1,0 +1,39 @@
+// Examples that the contracts decide.
+ghost use mathlib.Core.Path.{_≡_};
+ghost use lib.ListN.{length};
+ghost use Rattle.std.specs.Results.{Cases};
+ghost use Rattle.std.specs.declared.result.Result.the-variants.{Ok};
+ghost use Rattle.shelf.specs.Refusals.{Says};
+ghost use Rattle.shelf.specs.Refusals.Place.{held};
+use crate::joined::JoinedShelf;
+use crate::joined::JoinedShelfShelf;
+use crate::joined::JoinedShelfSource;
+use crate::memory::MemoryShelf;
+use crate::memory::MemoryShelfShelf;
+use crate::memory::MemoryShelfSource;
+use crate::refusal::Refusal;
+use crate::source::Shelf;
+use crate::source::Source;
+
+// Two shelves of 4 bytes are joined, restocked with 8 bytes and then with 3: they have 3.
+pub fn shorter_restock() -> Result<u64, Refusal>
+    ensures { λ r. ⌜ r ≡ Ok 3 ⌝ }
+{
+    let mut near = [0u8; 4];
+    let mut far = [0u8; 4];
+    let mut shelf = JoinedShelf::new(MemoryShelf::new(&mut near), MemoryShelf::new(&mut far));
+    shelf.restock(&[1, 2, 3, 4, 5, 6, 7, 8], 1)?;
+    shelf.restock(&[9, 10, 11], 2)?;
+    Ok(shelf.len())
+}
+
+// At the end of any source an empty read passes, and a read of one byte is refused 3 with the length.
+pub fn at_the_end<S: Source>(source: &S) -> (Result<(), Refusal>, Result<(), Refusal>)
+    ensures empty { λ r. ⌜ r .0 ≡ Ok tt ⌝ }
+    ensures one { λ r. ⌜ Cases (r .1) (λ _. ⊥) (λ e. Says e 3 held (length (S·Source .bytes (now (source .entry))))) ⌝ }
+{
+    let end = source.len();
+    let mut one = [0u8; 1];
+    let empty = source.read(end, &mut one[0..0]);
+    (empty, source.read(end, &mut one))
+}

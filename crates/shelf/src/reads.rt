@@ -1,0 +1,53 @@
+// The tests and copies that the kinds of source share.
+ghost use mathlib.Core.Path.{_≡_};
+ghost use Prim.Native.Nat.{_≤_, _<_};
+ghost use lib.ListN.{length, take};
+ghost use Rattle.std.specs.Results.{Cases};
+ghost use Rattle.shelf.specs.Meaning.{limit, Reads, Fit, Unfit};
+use crate::refusal::Reason;
+use crate::refusal::Refusal;
+use crate::source::LIMIT;
+
+// The first 2^40 bytes.
+pub fn within_limit(bytes: &[u8]) -> &[u8]
+    ensures { λ r. ⌜ now r ≡ take limit (now (bytes .entry)) ⌝ }
+{
+    let n = bytes.len().min(LIMIT as usize);
+    &bytes[0..n]
+}
+
+// Reads out of a slice, as a source is read.
+pub fn read_from(held: &[u8], place: u64, buffer: &mut [u8]) -> Result<(), Refusal>
+    ensures { λ r. ⌜ Reads (now (held .entry)) place (now (buffer .entry)) (now (buffer .exit)) r ⌝ }
+{
+    let len = held.len();
+    let wanted = buffer.len();
+    if place > len as u64 || wanted > len - place as usize {
+        return Err(Refusal {
+            reason: Reason::PastEnd,
+            place: len as u64,
+        });
+    }
+    let from = place as usize;
+    buffer.copy_from_slice(&held[from..from + wanted]);
+    Ok(())
+}
+
+// Whether a shelf of this capacity and stamp takes `size` bytes under the stamp `new`.
+pub fn fit(room: u64, mark: u32, size: u64, new: u32) -> Result<(), Refusal>
+    ensures { λ r. ⌜ Cases r (λ _. Fit room mark size new) (Unfit room mark size new) ⌝ }
+{
+    if new <= mark {
+        return Err(Refusal {
+            reason: Reason::StampNotAbove,
+            place: mark as u64,
+        });
+    }
+    if size > room {
+        return Err(Refusal {
+            reason: Reason::OverCapacity,
+            place: room,
+        });
+    }
+    Ok(())
+}
