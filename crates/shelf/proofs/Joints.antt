@@ -1,5 +1,5 @@
 -- Lists that are joined, and read across the joint.
-use mathlib.Core.Path.{_≡_, refl, sym, _∙_, ap}
+use mathlib.Core.Path.{_≡_, refl, sym, _∙_, ap, subst}
 use mathlib.Core.List.{List, [], _∷_, _++_, append-nil}
 use mathlib.Core.Logic.{_⊎_, inl, inr}
 use Prim.Native.Nat.{ℕ, _+_, _-_, _≤_, _<_, _^_, min, max}
@@ -14,8 +14,7 @@ use Rattle.std.proofs.shelf.Tests.{cases-lt}
 use Rattle.std.specs.declared.result.Result.{Result}
 use Rattle.std.specs.declared.result.Result.the-variants.{Ok, Err}
 use Rattle.shelf.specs.declared.refusal.Refusal.{Refusal}
-use Rattle.shelf.specs.Meaning.{Filled, Reads, Restocks, State, Fit, Unfit, limit}
-use Rattle.shelf.specs.Meaning.Unfit.{not-above, too-long}
+use Rattle.shelf.specs.Meaning.{Reads, State, Fit, Restocked, Restocks, limit}
 
 pub joined-length : (xs ys : List ℕ) (top : ℕ) → length (take top (xs ++ ys)) ≡ min (length xs + length ys) top
 joined-length xs ys top = length-take top (xs ++ ys) ∙ omega (arith, length-append xs ys)
@@ -127,31 +126,16 @@ joined-reads xs ys before buf1 buf2 top p k from next r h ef ek en e1 a =
 abbrev pub joined : State → State → State
 joined s t = record { bytes = take limit (s .bytes ++ t .bytes); mark = max (s .mark) (t .mark); room = min (s .room + t .room) limit }
 
--- both parts were restocked, the first with as much as it takes
-both-stocked : (s t : State) (given : List ℕ) (new k : ℕ) (s′ t′ : State)
-    → length given ≤ min (s .room + t .room) limit
-    → s′ ≡ record { bytes = take (k - 0) given; mark = new; room = s .room }
-    → t′ ≡ record { bytes = take (length given - k) (drop k given); mark = new; room = t .room }
-    → joined s′ t′ ≡ record { bytes = given; mark = new; room = min (s .room + t .room) limit }
-both-stocked s t given new k s′ t′ fits e f =
-    let z : k - 0 ≡ k = omega arith in
-    let first : s′ .bytes ≡ take k given = ap (λ (x : State). x .bytes) e ∙ ap (λ (j : ℕ). take j given) z in
-    let second : t′ .bytes ≡ drop k given = ap (λ (x : State). x .bytes) f ∙ take-rest given k in
-    let whole : take limit (s′ .bytes ++ t′ .bytes) ≡ given =
-    ap (λ (x : List ℕ). take limit (x ++ t′ .bytes)) first ∙ ap (λ (x : List ℕ). take limit (take k given ++ x)) second
-    ∙ ap (take limit) (take-append-drop k given) ∙ take-all limit given (omega arith) in
-    let marks : max (s′ .mark) (t′ .mark) ≡ new = omega (arith, ap (λ (x : State). x .mark) e, ap (λ (x : State). x .mark) f) in
-    let rooms : min (s′ .room + t′ .room) limit ≡ min (s .room + t .room) limit = omega (arith, ap (λ (x : State). x .room) e, ap (λ (x : State). x .room) f) in
-    λ i. record { bytes = whole i; mark = marks i; room = rooms i }
-
-pub joined-restocks : (s t : State) (given : List ℕ) (new k : ℕ) (s′ t′ : State) (r : Result Unit Refusal)
-    → Fit (min (s .room + t .room) limit) (max (s .mark) (t .mark)) (length given) new → k ≡ min (length given) (s .room)
-    → s′ ≡ record { bytes = take (k - 0) given; mark = new; room = s .room }
-    → Restocks t (take (length given - k) (drop k given)) new t′ r
-    → Restocks (joined s t) given new (joined s′ t′) r
-joined-restocks s t given new k s′ t′ (Ok u) fit ek e a = (fit, both-stocked s t given new k s′ t′ (fit .fits) e (a .1))
-joined-restocks s t given new k s′ t′ (Err x) fit ek e a = absurd (never (a .0))
-  where
-    never : Unfit (t .room) (t .mark) (length (take (length given - k) (drop k given))) new x → ⊥
-    never (not-above le says) = omega (arith, fit .above)
-    never (too-long lt over says) = omega (arith, over, fit .fits, ek, length-take (length given - k) (drop k given), length-drop k given)
+-- both parts were restocked, the first with the front and the second with the rest
+pub joined-restocks : (s t : State) (given front back : List ℕ) (new k : ℕ) (s′ t′ : State) (r : Result Unit Refusal)
+    → Fit (min (s .room + t .room) limit) (max (s .mark) (t .mark)) (length given) new → front ≡ take k given → back ≡ drop k given
+    → r ≡ Ok tt → Restocked s front new s′ → Restocked t back new t′ → Restocks (joined s t) given new (joined s′ t′) r
+joined-restocks s t given front back new k s′ t′ r fit f b ok a z = subst (Restocks (joined s t) given new (joined s′ t′)) (sym ok) (
+  fit,
+  record {
+    bytes = ap (λ (x : List ℕ). take limit (x ++ t′ .bytes)) (a .bytes ∙ f) ∙ ap (λ (x : List ℕ). take limit (take k given ++ x)) (z .bytes ∙ b)
+        ∙ ap (take limit) (take-append-drop k given) ∙ take-all limit given (omega (arith, fit .fits));
+    mark = omega (arith, a .mark, z .mark);
+    room = omega (arith, a .room, z .room);
+  },
+)

@@ -5,10 +5,8 @@ use mathlib.Core.Logic.{inl, inr}
 use Prim.Native.Nat.{ℕ, _-_, _≤_, min}
 use native.Mathlib.Omega.{arith}
 use lib.ListN.{length, take, drop}
-use borrow.Rule.Slice.PartMut.{postOf}
 use Rattle.std.proofs.shelf.Lists.{take-all, take-at, length-take, length-append, length-drop}
 use Rattle.std.proofs.shelf.Tests.{cases-lt}
-use Rattle.shelf.specs.Meaning.{State, limit}
 
 pub take-min : {X : Type 0} (n : ℕ) (xs : List X) → take (min n (length xs)) xs ≡ take n xs
 take-min {X} n xs = elim (cases-lt n (length xs)) [
@@ -32,17 +30,3 @@ pub stocked-bytes : (cap : ℕ) (given buf : List ℕ) → length given ≤ cap 
 stocked-bytes cap given buf h =
     let m : min (length given) cap ≡ length given = omega arith in
     simp m (take-at given (drop (length given) buf) (length given) refl)
-
--- what the borrow checker calls the rest behind the front
-pub post-is : (given buf after : List ℕ) → after ≡ given → after ++ postOf 0 (length given - 0) buf ≡ given ++ drop (length given) buf
-post-is given buf after e =
-    let z : length given - 0 ≡ length given = omega arith in
-    ap (λ (xs : List ℕ). xs ++ postOf 0 (length given - 0) buf) e ∙ ap (λ (k : ℕ). given ++ drop k buf) z
-
--- a shelf over a buffer whose front was written
-pub stocked-state : (given buf all : List ℕ) (new : ℕ) → all ≡ given ++ drop (length given) buf → length given ≤ min (length buf) limit
-    → _≡_ {A = State} (record { bytes = take (min (length given) limit) all; mark = new; room = min (length all) limit }) (record { bytes = given; mark = new; room = min (length buf) limit })
-stocked-state given buf all new e h =
-    let bytes : take (min (length given) limit) all ≡ given = ap (take (min (length given) limit)) e ∙ stocked-bytes limit given buf (omega arith) in
-    let room : min (length all) limit ≡ min (length buf) limit = ap (λ (xs : List ℕ). min (length xs) limit) e ∙ ap (λ (n : ℕ). min n limit) (stocked-length given buf (omega arith)) in
-    λ i. record { bytes = bytes i; mark = new; room = room i }

@@ -48,9 +48,21 @@ pub record State : Type 0 where
 abbrev pub state : {S : Type 0} → (S → List ℕ) → (S → ℕ) → (S → ℕ) → S → State
 state bytes mark room s = record { bytes = bytes s; mark = mark s; room = room s }
 
--- what a restock with `given` under `new` answers, and how it takes a shelf from one state to the next
+-- after an accepted restock: the bytes and the stamp are those given, the capacity stays
+pub record Restocked (s : State) (given : List ℕ) (new : ℕ) (t : State) : Type 0 where
+  pub bytes : t .bytes ≡ given
+  pub mark : t .mark ≡ new
+  pub room : t .room ≡ s .room
+
+-- after a refused one: nothing has changed
+pub record Unchanged (s t : State) : Type 0 where
+  pub bytes : t .bytes ≡ s .bytes
+  pub mark : t .mark ≡ s .mark
+  pub room : t .room ≡ s .room
+
+-- what a restock with `given` under `new` answers, and how it takes a shelf from the state s to t
 abbrev pub Restocks : State → List ℕ → ℕ → State → Result Unit Refusal → Type 0
 Restocks s given new t r =
     Cases r
-    (λ _. Fit (s .room) (s .mark) (length given) new × (t ≡ record { bytes = given; mark = new; room = s .room }))
-    (λ e. Unfit (s .room) (s .mark) (length given) new e × (t ≡ s))
+    (λ _. Fit (s .room) (s .mark) (length given) new × Restocked s given new t)
+    (λ e. Unfit (s .room) (s .mark) (length given) new e × Unchanged s t)

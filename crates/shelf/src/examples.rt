@@ -3,6 +3,7 @@ ghost use mathlib.Core.Path.{_≡_};
 ghost use lib.ListN.{length};
 ghost use Rattle.std.specs.Results.{Cases};
 ghost use Rattle.std.specs.declared.result.Result.the-variants.{Ok};
+ghost use Rattle.shelf.specs.Kinds.{bufferAfter};
 ghost use Rattle.shelf.specs.Refusals.{Says};
 ghost use Rattle.shelf.specs.Refusals.Place.{held};
 use crate::joined::JoinedShelf;
@@ -36,4 +37,12 @@ pub fn at_the_end<S: Source>(source: &S) -> (Result<(), Refusal>, Result<(), Ref
     let mut one = [0u8; 1];
     let empty = source.read(end, &mut one[0..0]);
     (empty, source.read(end, &mut one))
+}
+
+// A buffer is made a shelf and restocked: then it begins with the bytes given, and the rest of it stays.
+pub fn restocked_in_place(buffer: &mut [u8], given: &[u8], stamp: u32) -> Result<(), Refusal>
+    ensures { λ r. ⌜ now (buffer .exit) ≡ bufferAfter (now (buffer .entry)) (now (given .entry)) r ⌝ }
+{
+    let mut shelf = MemoryShelf::new(buffer);
+    shelf.restock(given, stamp)
 }

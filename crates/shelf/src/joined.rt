@@ -1,14 +1,15 @@
 // Two shelves as one.
 ghost use mathlib.Core.Path.{_≡_};
 ghost use mathlib.Core.List.{_++_};
-ghost use Prim.Native.Nat.{_+_, min, max};
-ghost use lib.ListN.{take};
-ghost use Rattle.shelf.specs.Meaning.{limit};
+ghost use Prim.Native.Nat.{_+_, _-_, _^_, _<_, _≤_, min, max};
+ghost use lib.ListN.{length, take};
+ghost use Rattle.std.specs.declared.result.Result.the-variants.{Ok};
+ghost use Rattle.shelf.specs.Meaning.{limit, state, Fit, Restocked};
 ghost use Rattle.shelf.specs.Kinds.{joinedBytes, joinedStamp, joinedCapacity};
 use crate::reads::fit;
+use crate::reads::joined_size;
 use crate::refusal::Reason;
 use crate::refusal::Refusal;
-use crate::source::LIMIT;
 use crate::source::Shelf;
 use crate::source::Source;
 
@@ -17,6 +18,26 @@ use crate::source::Source;
 pub struct JoinedShelf<A, B> {
     first: A,
     second: B,
+}
+
+// A read that is cut at the joint: `near` bytes of the first from `from` on, the rest of the second from `next` on.
+struct Cut {
+    from: u64,
+    near: u64,
+    next: u64,
+}
+
+// Either part may be empty.
+fn cut_at(joint: u64, place: u64, wanted: u64) -> Cut
+    requires { ⌜ place + wanted < 2 ^ 64 ⌝ }
+    ensures from { λ r. ⌜ r .from ≡ min place joint ⌝ }
+    ensures near { λ r. ⌜ r .near ≡ min wanted (joint - r .from) ⌝ }
+    ensures next { λ r. ⌜ r .next ≡ max (place + r .near) joint - joint ⌝ }
+{
+    let from = place.min(joint);
+    let near = wanted.min(joint - from);
+    let next = (place + near).max(joint) - joint;
+    Cut { from, near, next }
 }
 
 impl<A: Shelf, B: Shelf> JoinedShelf<A, B> {
@@ -28,6 +49,19 @@ impl<A: Shelf, B: Shelf> JoinedShelf<A, B> {
     {
         JoinedShelf { first, second }
     }
+
+    // Restocks the first with `front` and the second with `back`, where both take them.
+    fn restock_parts(&mut self, front: &[u8], back: &[u8], stamp: u32) -> Result<(), Refusal>
+        requires first { ⌜ Fit (A·Shelf .capacity (now self .first)) (A·Source .stamp (now self .first)) (length (now front)) stamp ⌝ }
+        requires second { ⌜ Fit (B·Shelf .capacity (now self .second)) (B·Source .stamp (now self .second)) (length (now back)) stamp ⌝ }
+        ensures both { λ r. ⌜ r ≡ Ok tt ⌝ }
+        ensures first { λ _. ⌜ Restocked (state (A·Source .bytes) (A·Source .stamp) (A·Shelf .capacity) (now (self .entry) .first)) (now (front .entry)) stamp (state (A·Source .bytes) (A·Source .stamp) (A·Shelf .capacity) (now (self .exit) .first)) ⌝ }
+        ensures second { λ _. ⌜ Restocked (state (B·Source .bytes) (B·Source .stamp) (B·Shelf .capacity) (now (self .entry) .second)) (now (back .entry)) stamp (state (B·Source .bytes) (B·Source .stamp) (B·Shelf .capacity) (now (self .exit) .second)) ⌝ }
+    {
+        self.first.restock(front, stamp)?;
+        self.second.restock(back, stamp)?;
+        Ok(())
+    }
 }
 
 pub impl<A: Source, B: Source> Source for JoinedShelf<A, B> as JoinedShelfSource {
@@ -36,14 +70,13 @@ pub impl<A: Source, B: Source> Source for JoinedShelf<A, B> as JoinedShelfSource
     ghost stamp = { joinedStamp (A·Source .stamp) (B·Source .stamp) };
 
     fn len(&self) -> u64 {
-        (self.first.len() + self.second.len()).min(LIMIT)
+        joined_size(self.first.len(), self.second.len())
     }
 
     fn stamp(&self) -> u32 {
         self.first.stamp().max(self.second.stamp())
     }
 
-    // Two reads, either of which may be empty: up to the joint, and from it on.
     fn read(&self, place: u64, buffer: &mut [u8]) -> Result<(), Refusal> {
         let held = self.len();
         let wanted = buffer.len() as u64;
@@ -53,12 +86,9 @@ pub impl<A: Source, B: Source> Source for JoinedShelf<A, B> as JoinedShelfSource
                 place: held,
             });
         }
-        let joint = self.first.len();
-        let from = place.min(joint);
-        let cut = wanted.min(joint - from);
-        self.first.read(from, &mut buffer[0..cut as usize])?;
-        let next = (place + cut).max(joint) - joint;
-        self.second.read(next, &mut buffer[cut as usize..])
+        let Cut { from, near, next } = cut_at(self.first.len(), place, wanted);
+        self.first.read(from, &mut buffer[0..near as usize])?;
+        self.second.read(next, &mut buffer[near as usize..])
     }
 }
 
@@ -66,14 +96,14 @@ pub impl<A: Shelf, B: Shelf> Shelf for JoinedShelf<A, B> as JoinedShelfShelf {
     ghost capacity = { joinedCapacity (A·Shelf .capacity) (B·Shelf .capacity) };
 
     fn capacity(&self) -> u64 {
-        (self.first.capacity() + self.second.capacity()).min(LIMIT)
+        joined_size(self.first.capacity(), self.second.capacity())
     }
 
     fn restock(&mut self, given: &[u8], stamp: u32) -> Result<(), Refusal> {
         let count = given.len() as u64;
         fit(self.capacity(), self.stamp(), count, stamp)?;
         let cut = count.min(self.first.capacity()) as usize;
-        self.first.restock(&given[0..cut], stamp)?;
-        self.second.restock(&given[cut..], stamp)
+        let (front, back) = given.split_at(cut);
+        self.restock_parts(front, back, stamp)
     }
 }

@@ -8,6 +8,7 @@ mod refusal;
 mod source;
 
 pub use examples::at_the_end;
+pub use examples::restocked_in_place;
 pub use examples::shorter_restock;
 pub use fixed::FixedFile;
 pub use fixed::FixedFileSource;
@@ -18,6 +19,9 @@ pub use memory::MemoryShelf;
 pub use memory::MemoryShelfShelf;
 pub use memory::MemoryShelfSource;
 pub use refusal::Reason;
+pub use refusal::ReasonPartialEq;
 pub use refusal::Refusal;
+pub use refusal::RefusalDisplay;
+pub use refusal::RefusalPartialEq;
 pub use source::Shelf;
 pub use source::Source;

@@ -1,8 +1,8 @@
 // A shelf over a client's buffer.
 ghost use mathlib.Core.Path.{_≡_};
-ghost use mathlib.Core.List.{[]};
-ghost use Prim.Native.Nat.{min};
-ghost use lib.ListN.{length};
+ghost use mathlib.Core.List.{[], _++_};
+ghost use Prim.Native.Nat.{_≤_, min};
+ghost use lib.ListN.{length, drop};
 ghost use denote.Ref.{name};
 ghost use Rattle.shelf.specs.Meaning.{limit, state, Restocks};
 ghost use Rattle.shelf.specs.Kinds.{memoryBytes, memoryStamp, memoryCapacity, bufferAfter};
@@ -37,8 +37,23 @@ impl<'a> MemoryShelf<'a> {
         }
     }
 
+    // Holds the bytes given, at the front of its buffer, under `stamp`.
+    fn hold(&mut self, given: &[u8], stamp: u32)
+        requires { ⌜ length (now given) ≤ length (now (now self .buffer)) ⌝ }
+        ensures buffer { λ _. ⌜ now (now (self .exit) .buffer) ≡ now (given .entry) ++ drop (length (now (given .entry))) (now (now (self .entry) .buffer)) ⌝ }
+        ensures count { λ _. ⌜ now (self .exit) .count ≡ length (now (given .entry)) ⌝ }
+        ensures stamp { λ _. ⌜ now (self .exit) .stamp ≡ stamp ⌝ }
+        ensures lent { λ _. ⌜ name (now (self .exit) .buffer) ≡ name (now (self .entry) .buffer) ⌝ }
+    {
+        let count = given.len();
+        self.buffer[0..count].copy_from_slice(given);
+        self.count = count;
+        self.stamp = stamp;
+    }
+
     fn held(&self) -> &[u8]
-        ensures { λ r. ⌜ now r ≡ memoryBytes (now (self .entry)) ⌝ }
+        ensures value { λ r. ⌜ now r ≡ memoryBytes (now (self .entry)) ⌝ }
+        ensures bound { λ r. ⌜ length (now r) ≤ limit ⌝ }
     {
         let n = self.count.min(LIMIT as usize).min(self.buffer.len());
         &self.buffer[0..n]
@@ -75,11 +90,8 @@ pub impl<'a> Shelf for MemoryShelf<'a> as MemoryShelfShelf {
         ensures buffer { λ r. ⌜ now (now (self .exit) .buffer) ≡ bufferAfter (now (now (self .entry) .buffer)) (now (given .entry)) r ⌝ }
         ensures lent { λ _. ⌜ name (now (self .exit) .buffer) ≡ name (now (self .entry) .buffer) ⌝ }
     {
-        let count = given.len();
-        fit(self.capacity(), self.stamp, count as u64, stamp)?;
-        self.buffer[0..count].copy_from_slice(given);
-        self.count = count;
-        self.stamp = stamp;
+        fit(self.capacity(), self.stamp, given.len() as u64, stamp)?;
+        self.hold(given, stamp);
         Ok(())
     }
 }

@@ -1,6 +1,6 @@
 // The tests and copies that the kinds of source share.
 ghost use mathlib.Core.Path.{_≡_};
-ghost use Prim.Native.Nat.{_≤_, _<_};
+ghost use Prim.Native.Nat.{_+_, _≤_, min};
 ghost use lib.ListN.{length, take};
 ghost use Rattle.std.specs.Results.{Cases};
 ghost use Rattle.shelf.specs.Meaning.{limit, Reads, Fit, Unfit};
@@ -10,10 +10,20 @@ use crate::source::LIMIT;
 
 // The first 2^40 bytes.
 pub fn within_limit(bytes: &[u8]) -> &[u8]
-    ensures { λ r. ⌜ now r ≡ take limit (now (bytes .entry)) ⌝ }
+    ensures value { λ r. ⌜ now r ≡ take limit (now (bytes .entry)) ⌝ }
+    ensures bound { λ r. ⌜ length (now r) ≤ limit ⌝ }
 {
-    let n = bytes.len().min(LIMIT as usize);
-    &bytes[0..n]
+    if bytes.len() as u64 <= LIMIT {
+        return bytes;
+    }
+    &bytes[0..LIMIT as usize]
+}
+
+// The sum of two lengths or capacities, at most 2^40.
+pub fn joined_size(first: u64, second: u64) -> u64
+    ensures { λ r. ⌜ r ≡ min (first + second) limit ⌝ }
+{
+    first.saturating_add(second).min(LIMIT)
 }
 
 // Reads out of a slice, as a source is read.

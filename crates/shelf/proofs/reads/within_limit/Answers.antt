@@ -1,7 +1,8 @@
+use mathlib.Core.Path.{sym}
 use native.Mathlib.Omega.{arith}
+use Rattle.std.proofs.shelf.Lists.{take-all}
 use Rattle.shelf.specs.Meaning.{limit}
-use Rattle.shelf.proofs.Parts.{front-is}
 use Rattle.shelf.proofs.reads.within_limit.Needs as need
 
-pub returns : need.returns
-returns c = front-is limit (c .min-n .result) (c .args .bytes .now) (omega arith)
+pub returns-then-bytes-le-LIMIT : need.returns-then-bytes-le-LIMIT
+returns-then-bytes-le-LIMIT c = record { value = sym (take-all limit (c .args .bytes .now) (omega arith)); bound = omega arith }

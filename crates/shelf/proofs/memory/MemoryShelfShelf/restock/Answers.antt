@@ -1,16 +1,26 @@
-use mathlib.Core.Path.{refl}
+use mathlib.Core.Path.{ap, _∙_}
+use Prim.Native.Nat.{ℕ, min}
 use native.Mathlib.Omega.{arith}
-use Rattle.shelf.proofs.Parts.{post-is, stocked-state}
+use lib.ListN.{length, take}
+use Rattle.shelf.specs.Meaning.{limit}
+use Rattle.shelf.proofs.Parts.{stocked-bytes, stocked-length}
 use Rattle.shelf.proofs.memory.MemoryShelfShelf.restock.Needs as need
 
 pub returns : need.returns
 returns c =
     let buf = c .args .self .now .buffer .now in
     let given = c .args .given .now in
-    let all = post-is given buf _ (c .copy-from-slice .ensures .after) in
+    let held = c .hold .ensures in
     let fit = c .in-Continue-fit .ensures tt in
     record {
-      means = (record { above = fit .above; fits = omega arith }, stocked-state given buf _ (c .args .stamp) all (omega arith));
-      buffer = all;
-      lent = refl;
+      means = (
+        record { above = fit .above; fits = omega arith },
+        record {
+          bytes = ap (λ (n : ℕ). take (min n limit) (c .hold .last .self .buffer .now)) (held .count) ∙ ap (take (min (length given) limit)) (held .buffer) ∙ stocked-bytes limit given buf (omega arith);
+          mark = held .stamp;
+          room = ap (λ (n : ℕ). min n limit) (ap length (held .buffer) ∙ stocked-length given buf (omega arith));
+        },
+      );
+      buffer = held .buffer;
+      lent = held .lent;
     }

@@ -1,0 +1,96 @@
+// cphd: reads CPHD 1.1.0 products.
+use report::print_header;
+use report::run_demo;
+use shelf::FixedFile;
+use shelf::FixedFileSource;
+use std::env;
+use std::env::Args;
+use std::error::AnyError;
+use std::fs;
+use std::path::Path;
+
+const HELP: &str = "cphd reads CPHD 1.1.0 products (compensated phase history data).
+
+usage:
+  cphd header FILE...    print each file's header: keys and values, blocks, gaps;
+                         status 1 where a file is refused
+  cphd headers FILE...   the same, and at the end how many were accepted; status 0
+  cphd demo              read the header of a built-in product, whole, joined and damaged
+  cphd help              print this page
+
+A block is printed as NAME PLACE SIZE, in bytes from the start of the file.
+A refusal is printed as: refused NUMBER PLACE: SENTENCE.";
+
+// How many of the files that were read were accepted.
+struct Count {
+    files: u64,
+    accepted: u64,
+}
+
+fn main(rt: LibcRuntime) -> Result<(), AnyError> {
+    if rt.report(run(&rt))? {
+        return Ok(());
+    }
+    Err("refused".into())
+}
+
+// Carries out the command; answers whether it went well.
+fn run(rt: &LibcRuntime) -> Result<bool, AnyError> {
+    let mut args = env::args(rt)?;
+    let _program = args.next();
+    let Some(command) = args.next() else {
+        return Err("a command is expected; `cphd help` lists them".into());
+    };
+    match command.as_str() {
+        "header" => {
+            let count = print_headers(rt, args)?;
+            Ok(count.accepted == count.files)
+        }
+        "headers" => {
+            let Count { files, accepted } = print_headers(rt, args)?;
+            println!(
+                rt,
+                "{files} files, {accepted} accepted, {} refused",
+                files.saturating_sub(accepted)
+            )?;
+            Ok(true)
+        }
+        "demo" => run_demo(rt),
+        "help" => {
+            println!(rt, "{HELP}")?;
+            Ok(true)
+        }
+        other => {
+            eprintln!(rt, "cphd: unknown command `{other}`")?;
+            Err("one of header, headers, demo and help is expected".into())
+        }
+    }
+}
+
+fn print_headers(rt: &LibcRuntime, files: Args) -> Result<Count, AnyError> {
+    let mut count = Count {
+        files: 0,
+        accepted: 0,
+    };
+    for path in files {
+        let accepted = print_file(rt, path.as_str())?;
+        count.files = count.files.saturating_add(1);
+        count.accepted = count.accepted.saturating_add(u64::from(accepted));
+    }
+    if count.files == 0 {
+        return Err("at least one file is expected".into());
+    }
+    Ok(count)
+}
+
+fn print_file(rt: &LibcRuntime, path: &str) -> Result<bool, AnyError> {
+    let bytes = match fs::read(rt, path) {
+        Ok(bytes) => bytes,
+        Err(error) => {
+            eprintln!(rt, "cphd: {path} could not be read")?;
+            return Err(error.into());
+        }
+    };
+    let name = Path::new(path).file_name().unwrap_or(path);
+    print_header(rt, name, &FixedFile::new(&bytes, 0))
+}
