@@ -14,6 +14,8 @@ use Rattle.std.proofs.shelf.Tests.{cases-lt}
 use Rattle.std.specs.declared.result.Result.{Result}
 use Rattle.std.specs.declared.result.Result.the-variants.{Ok, Err}
 use Rattle.shelf.specs.declared.refusal.Refusal.{Refusal}
+use Rattle.shelf.specs.Kinds.{PartsRestock}
+use Rattle.shelf.proofs.Parts.{take-min, drop-min}
 use Rattle.shelf.specs.Meaning.{Reads, State, Fit, Restocked, Restocks, limit}
 
 pub joined-length : (xs ys : List ℕ) (top : ℕ) → length (take top (xs ++ ys)) ≡ min (length xs + length ys) top
@@ -127,15 +129,27 @@ abbrev pub joined : State → State → State
 joined s t = record { bytes = take limit (s .bytes ++ t .bytes); mark = max (s .mark) (t .mark); room = min (s .room + t .room) limit }
 
 -- both parts were restocked, the first with the front and the second with the rest
-pub joined-restocks : (s t : State) (given front back : List ℕ) (new k : ℕ) (s′ t′ : State) (r : Result Unit Refusal)
-    → Fit (min (s .room + t .room) limit) (max (s .mark) (t .mark)) (length given) new → front ≡ take k given → back ≡ drop k given
-    → r ≡ Ok tt → Restocked s front new s′ → Restocked t back new t′ → Restocks (joined s t) given new (joined s′ t′) r
-joined-restocks s t given front back new k s′ t′ r fit f b ok a z = subst (Restocks (joined s t) given new (joined s′ t′)) (sym ok) (
-  fit,
-  record {
-    bytes = ap (λ (x : List ℕ). take limit (x ++ t′ .bytes)) (a .bytes ∙ f) ∙ ap (λ (x : List ℕ). take limit (take k given ++ x)) (z .bytes ∙ b)
-        ∙ ap (take limit) (take-append-drop k given) ∙ take-all limit given (omega (arith, fit .fits));
-    mark = omega (arith, a .mark, z .mark);
-    room = omega (arith, a .room, z .room);
-  },
-)
+module _ (s t : State) (given front back : List ℕ) (new k : ℕ) (s′ t′ : State) (r : Result Unit Refusal)
+    (cut : k ≡ min (length given) (s .room)) (f : front ≡ take k given) (b : back ≡ drop k given) (ok : r ≡ Ok tt) (a : Restocked s front new s′) (z : Restocked t back new t′) where
+  front-room : front ≡ take (s .room) given
+  front-room = let e : k ≡ min (s .room) (length given) = omega arith in f ∙ ap (λ (j : ℕ). take j given) e ∙ take-min (s .room) given
+
+  back-room : back ≡ drop (s .room) given
+  back-room = let e : k ≡ min (s .room) (length given) = omega arith in b ∙ ap (λ (j : ℕ). drop j given) e ∙ drop-min (s .room) given
+
+  pub parts-restock : PartsRestock s t given new s′ t′ r
+  parts-restock = subst (PartsRestock s t given new s′ t′) (sym ok) (
+    record { bytes = a .bytes ∙ front-room; mark = a .mark; room = a .room },
+    record { bytes = z .bytes ∙ back-room; mark = z .mark; room = z .room },
+  )
+
+  pub joined-restocks : Fit (min (s .room + t .room) limit) (max (s .mark) (t .mark)) (length given) new → Restocks (joined s t) given new (joined s′ t′) r
+  joined-restocks fit = subst (Restocks (joined s t) given new (joined s′ t′)) (sym ok) (
+    fit,
+    record {
+      bytes = ap (λ (x : List ℕ). take limit (x ++ t′ .bytes)) (a .bytes ∙ f) ∙ ap (λ (x : List ℕ). take limit (take k given ++ x)) (z .bytes ∙ b)
+          ∙ ap (take limit) (take-append-drop k given) ∙ take-all limit given (omega (arith, fit .fits));
+      mark = omega (arith, a .mark, z .mark);
+      room = omega (arith, a .room, z .room);
+    },
+  )

@@ -2,16 +2,25 @@
 use mathlib.Core.Path.{_≡_, refl, sym, _∙_, ap}
 use mathlib.Core.List.{List, _++_}
 use mathlib.Core.Logic.{inl, inr}
-use Prim.Native.Nat.{ℕ, _-_, _≤_, min}
+use Prim.Native.Nat.{ℕ, _-_, _<_, _≤_, min}
 use native.Mathlib.Omega.{arith}
 use lib.ListN.{length, take, drop}
-use Rattle.std.proofs.shelf.Lists.{take-all, take-at, length-take, length-append, length-drop}
+use Rattle.std.proofs.shelf.Lists.{take-all, drop-all, take-at, length-take, length-append, length-drop}
 use Rattle.std.proofs.shelf.Tests.{cases-lt}
+use Rattle.shelf.specs.declared.refusal.Refusal.{Refusal}
+use Rattle.shelf.specs.Meaning.{Unfit}
+use Rattle.shelf.specs.Meaning.Unfit.{not-above, too-long}
 
 pub take-min : {X : Type 0} (n : ℕ) (xs : List X) → take (min n (length xs)) xs ≡ take n xs
 take-min {X} n xs = elim (cases-lt n (length xs)) [
   | inl h ↦ (let e : min n (length xs) ≡ n = omega arith in ap (λ (k : ℕ). take k xs) e)
   | inr h ↦ (let e : min n (length xs) ≡ length xs = omega arith in ap (λ (k : ℕ). take k xs) e ∙ take-all (length xs) xs (omega arith) ∙ sym (take-all n xs h))
+]
+
+pub drop-min : {X : Type 0} (n : ℕ) (xs : List X) → drop (min n (length xs)) xs ≡ drop n xs
+drop-min {X} n xs = elim (cases-lt n (length xs)) [
+  | inl h ↦ (let e : min n (length xs) ≡ n = omega arith in ap (λ (k : ℕ). drop k xs) e)
+  | inr h ↦ (let e : min n (length xs) ≡ length xs = omega arith in ap (λ (k : ℕ). drop k xs) e ∙ drop-all (length xs) xs (omega arith) ∙ sym (drop-all n xs h))
 ]
 
 -- `&xs[0..k]`, where k is the smaller of n and the length
@@ -30,3 +39,8 @@ pub stocked-bytes : (cap : ℕ) (given buf : List ℕ) → length given ≤ cap 
 stocked-bytes cap given buf h =
     let m : min (length given) cap ≡ length given = omega arith in
     simp m (take-at given (drop (length given) buf) (length given) refl)
+
+-- what fits is not refused
+pub fit-not-unfit : (room mark size new : ℕ) (e : Refusal) → mark < new → size ≤ room → Unfit room mark size new e → ⊥
+fit-not-unfit room mark size new e above fits (not-above le says) = omega arith
+fit-not-unfit room mark size new e above fits (too-long lt over says) = omega arith

@@ -6,7 +6,8 @@ use lib.ListN.{length, take, drop}
 use denote.Ref.{now}
 use Rattle.std.specs.declared.result.Result.{Result}
 use Rattle.std.specs.declared.result.Result.the-variants.{Ok, Err}
-use Rattle.shelf.specs.Meaning.{limit}
+use Rattle.std.specs.Results.{Cases}
+use Rattle.shelf.specs.Meaning.{limit, State, Restocked, Unchanged}
 use Rattle.shelf.specs.declared.refusal.Refusal.{Refusal}
 use Rattle.shelf.specs.declared.fixed.FixedFile.{FixedFile}
 use Rattle.shelf.specs.declared.memory.MemoryShelf.{MemoryShelf}
@@ -46,3 +47,10 @@ joinedStamp a b s = max (a (s .first)) (b (s .second))
 -- its capacity is their sum, at most 2^40
 abbrev pub joinedCapacity : {A B : Type 0} → (A → ℕ) → (B → ℕ) → JoinedShelf A B → ℕ
 joinedCapacity a b s = min (a (s .first) + b (s .second)) limit
+
+-- a joined restock fills the first up to its capacity and gives the rest to the second, both under the new stamp; a refused one leaves both
+abbrev pub PartsRestock : State → State → List ℕ → ℕ → State → State → Result Unit Refusal → Type 0
+PartsRestock s t given new s′ t′ r =
+    Cases r
+    (λ _. Restocked s (take (s .room) given) new s′ × Restocked t (drop (s .room) given) new t′)
+    (λ _. Unchanged s s′ × Unchanged t t′)

@@ -4,8 +4,8 @@ ghost use mathlib.Core.List.{_++_};
 ghost use Prim.Native.Nat.{_+_, _-_, _^_, _<_, _≤_, min, max};
 ghost use lib.ListN.{length, take};
 ghost use Rattle.std.specs.declared.result.Result.the-variants.{Ok};
-ghost use Rattle.shelf.specs.Meaning.{limit, state, Fit, Restocked};
-ghost use Rattle.shelf.specs.Kinds.{joinedBytes, joinedStamp, joinedCapacity};
+ghost use Rattle.shelf.specs.Meaning.{limit, state, Fit, Restocked, Restocks};
+ghost use Rattle.shelf.specs.Kinds.{joinedBytes, joinedStamp, joinedCapacity, PartsRestock};
 use crate::reads::fit;
 use crate::reads::joined_size;
 use crate::refusal::Reason;
@@ -99,7 +99,10 @@ pub impl<A: Shelf, B: Shelf> Shelf for JoinedShelf<A, B> as JoinedShelfShelf {
         joined_size(self.first.capacity(), self.second.capacity())
     }
 
-    fn restock(&mut self, given: &[u8], stamp: u32) -> Result<(), Refusal> {
+    fn restock(&mut self, given: &[u8], stamp: u32) -> Result<(), Refusal>
+        ensures means { λ r. ⌜ Restocks (state (joinedBytes (A·Source .bytes) (B·Source .bytes)) (joinedStamp (A·Source .stamp) (B·Source .stamp)) (joinedCapacity (A·Shelf .capacity) (B·Shelf .capacity)) (now (self .entry))) (now (given .entry)) stamp (state (joinedBytes (A·Source .bytes) (B·Source .bytes)) (joinedStamp (A·Source .stamp) (B·Source .stamp)) (joinedCapacity (A·Shelf .capacity) (B·Shelf .capacity)) (now (self .exit))) r ⌝ }
+        ensures parts { λ r. ⌜ PartsRestock (state (A·Source .bytes) (A·Source .stamp) (A·Shelf .capacity) (now (self .entry) .first)) (state (B·Source .bytes) (B·Source .stamp) (B·Shelf .capacity) (now (self .entry) .second)) (now (given .entry)) stamp (state (A·Source .bytes) (A·Source .stamp) (A·Shelf .capacity) (now (self .exit) .first)) (state (B·Source .bytes) (B·Source .stamp) (B·Shelf .capacity) (now (self .exit) .second)) r ⌝ }
+    {
         let count = given.len() as u64;
         fit(self.capacity(), self.stamp(), count, stamp)?;
         let cut = count.min(self.first.capacity()) as usize;
