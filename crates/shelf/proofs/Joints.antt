@@ -55,7 +55,7 @@ drop-joined xs ys p =
 
 -- a read across the joint
 pub cross : (xs ys : List ℕ) (top p n k from next : ℕ) → p + n ≤ top
-    → from ≡ min p (length xs) → k ≡ min n (length xs - from) → next ≡ max (p + k) (length xs) - length xs
+    → from ≡ min p (length xs) → k ≡ min n (length xs - from) → next ≡ max p (length xs) - length xs
     → take k (drop from xs) ++ take (n - k) (drop next ys) ≡ take n (drop p (take top (xs ++ ys)))
 cross xs ys top p n k from next h ef ek en =
     let l : length (drop p xs) ≡ length xs - p = length-drop p xs in
@@ -86,7 +86,7 @@ cross xs ys top p n k from next h ef ek en =
 
 pub joined-reads : (xs ys before buf1 buf2 : List ℕ) (top p k from next : ℕ) (r : Result Unit Refusal)
     → p + length before ≤ length (take top (xs ++ ys))
-    → from ≡ min p (length xs) → k ≡ min (length before) (length xs - from) → next ≡ max (p + k) (length xs) - length xs
+    → from ≡ min p (length xs) → k ≡ min (length before) (length xs - from) → next ≡ max p (length xs) - length xs
     → buf1 ≡ take (length (take (k - 0) before)) (drop from xs)
     → Reads ys next (take (length (buf1 ++ postOf 0 (k - 0) before) - k) (drop k (buf1 ++ postOf 0 (k - 0) before))) buf2 r
     → Reads (take top (xs ++ ys)) p before (putMid k (length (buf1 ++ postOf 0 (k - 0) before) - k) (buf1 ++ postOf 0 (k - 0) before) buf2) r

@@ -1,7 +1,7 @@
 // Two shelves as one.
 ghost use mathlib.Core.Path.{_≡_};
 ghost use mathlib.Core.List.{_++_};
-ghost use Prim.Native.Nat.{_+_, _-_, _^_, _<_, _≤_, min, max};
+ghost use Prim.Native.Nat.{_+_, _-_, min, max};
 ghost use lib.ListN.{length, take};
 ghost use Rattle.std.specs.declared.result.Result.the-variants.{Ok};
 ghost use Rattle.shelf.specs.Meaning.{limit, state, Fit, Restocked, Restocks};
@@ -29,14 +29,13 @@ struct Cut {
 
 // Either part may be empty.
 fn cut_at(joint: u64, place: u64, wanted: u64) -> Cut
-    requires { ⌜ place + wanted < 2 ^ 64 ⌝ }
     ensures from { λ r. ⌜ r .from ≡ min place joint ⌝ }
     ensures near { λ r. ⌜ r .near ≡ min wanted (joint - r .from) ⌝ }
-    ensures next { λ r. ⌜ r .next ≡ max (place + r .near) joint - joint ⌝ }
+    ensures next { λ r. ⌜ r .next ≡ max place joint - joint ⌝ }
 {
     let from = place.min(joint);
     let near = wanted.min(joint - from);
-    let next = (place + near).max(joint) - joint;
+    let next = place.max(joint) - joint;
     Cut { from, near, next }
 }
 

@@ -1,0 +1,10 @@
+pub mod Runs
+pub mod Steps
+pub mod Amounts
+pub mod Codes
+pub mod Stating
+pub mod Unique
+pub mod Agreement
+pub mod Reasons
+pub mod Order
+pub mod Fronts

@@ -1,0 +1,8 @@
+use Prim.Native.Nat.{_≤_}
+use Rattle.header.specs.declared.keys.Key.{Key}
+use Rattle.header.specs.Keys.{code, Missing}
+use Rattle.header.specs.Tables.{linesOf}
+use Rattle.header.proofs.table.Table.complete.Given as given
+
+abbrev pub Inv-loop-i : given.InvT-loop-i
+Inv-loop-i l = (k : Key) → code k ≤ l .i → Missing (linesOf (l .head) (l .self)) k → ⊥
