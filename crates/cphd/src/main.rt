@@ -22,6 +22,7 @@ A block is printed as NAME PLACE SIZE, in bytes from the start of the file.
 A refusal is printed as: refused NUMBER PLACE: SENTENCE.";
 
 // How many of the files that were read were accepted.
+#[derive(Drop)]
 struct Count {
     files: u64,
     accepted: u64,

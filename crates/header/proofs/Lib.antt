@@ -5,6 +5,5 @@ pub mod Codes
 pub mod Stating
 pub mod Unique
 pub mod Agreement
-pub mod Reasons
 pub mod Order
 pub mod Fronts

@@ -23,7 +23,7 @@ use Rattle.header.specs.Headers.StageRefusal.{lines, repeated, missing, not-nu
 use Rattle.header.specs.Headers.Misplaced.{xml-early, support-early, pvp-early, signal-early, not-whole}
 use Rattle.header.specs.Rows.{front, Terminated, LawfulHeader, Row, placeOrder, Refused, Answer}
 use Rattle.header.specs.Rows.Row.{other-type as row-type, malformed as row-malformed, repeated as row-repeated, missing as row-missing, not-number as row-not-number, misplaced as row-misplaced, unterminated as row-unterminated}
-use Rattle.header.proofs.Reasons.{said, reason-same}
+use Rattle.shelf.proofs.Reasons.{said, one-reason}
 use Rattle.header.proofs.Unique.{text-same, malformed-text, malformed-same, places-rise}
 use Rattle.header.proofs.Agreement.{stated-complete, stated-right, stated-same, not-misplaced}
 
@@ -230,7 +230,7 @@ same-refusal file e f r q =
     (λ n.
     ⊎-elim
     (λ k.
-    let reason = reason-same (e .reason) (f .reason) n in
+    let reason = one-reason (e .reason) (f .reason) n in
     let place = same-place file e f (r .applies) (q .applies) n k in
     λ i. record { reason = reason i; place = place i })
     (⊎-elim

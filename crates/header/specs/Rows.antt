@@ -34,12 +34,19 @@ pub record LawfulHeader (file : List ℕ) (h : Header) : Type 0 where
 
 -- a rule is broken, and this is its refusal
 pub data Row (file : List ℕ) (e : Refusal) : Type 0 where
+  -- the first bytes are not the file type
   other-type : Says e 10 nothing 0 → (Begins (front file) fileType → ⊥) → Row file e
+  -- a line is malformed, one too many, or unfinished
   malformed : (p : ℕ) → Says e 11 line p → Malformed (front file) p → Row file e
+  -- a line's key stood before
   repeated : (p : ℕ) → Says e 12 line p → (ls : List HeaderLine) (at : ℕ) → HeaderText (front file) ls at → RepeatedAt ls p → Row file e
+  -- a key is missing
   missing : (k : Key) → Says e 13 key (code k) → (ls : List HeaderLine) (at : ℕ) → HeaderText (front file) ls at → Missing ls k → Row file e
+  -- a value is not 1 to 18 digits
   not-number : (k : Key) → Says e 14 key (code k) → (ls : List HeaderLine) (at : ℕ) → HeaderText (front file) ls at → code k ≤ lastNumber → NotNumber ls k → Row file e
+  -- a block starts too early, or the last does not end with the file
   misplaced : (p : ℕ) → Says e 15 block p → (h : Header) → Stated (front file) h → Misplaced h (length file) p → Row file e
+  -- the XML block has no terminator
   unterminated : Says e 15 block 1 → (h : Header) → Stated (front file) h → (Terminated file h → ⊥) → Row file e
 
 -- within a number the lower place comes first, but 15 has its own order

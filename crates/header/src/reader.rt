@@ -66,7 +66,7 @@ fn head_in<S: Source>(source: &S, buffer: &mut [u8]) -> Result<Header, Refusal>
     parsed(source, &buffer[0..n])
 }
 
-// The header of the file, or the first refusal that applies. Its first 4,096 bytes and the two behind the XML block decide.
+// The header of the file, or the first refusal that applies. It reads the first 4,096 bytes and the two behind the XML block.
 pub fn head<S: Source>(source: &S) -> Result<Header, Refusal>
     ensures answer { λ r. ⌜ Answer (S·Source .bytes (now (source .entry))) r ⌝ }
     ensures only { λ r. ⌜ ((s : Result Header Refusal) → Answer (S·Source .bytes (now (source .entry))) s → s ≡ r) ⌝ }

@@ -32,7 +32,9 @@ PRODUCER := built in
 ";
 
 const XML_PLACE: usize = 512;
+
 const XML_SIZE: usize = 64;
+
 const FILE_SIZE: usize = 1064;
 
 // A byte inside the separator of the first line, between the key and its value.
@@ -41,9 +43,15 @@ const DAMAGED: usize = 26;
 // Prints each step; answers whether the product was accepted twice and its damaged copy refused.
 pub fn run_demo(rt: &LibcRuntime) -> Result<bool, AnyError> {
     let mut product = built_in(rt.alloc())?;
-    println!(rt, "1. A product of {FILE_SIZE} bytes lies in memory as a fixed file. Its header:")?;
+    println!(
+        rt,
+        "1. A product of {FILE_SIZE} bytes lies in memory as a fixed file. Its header:"
+    )?;
     let whole = print_header(rt, "built-in", &FixedFile::new(&product, 1))?;
-    println!(rt, "2. Two buffers of 300 and 800 bytes are joined as one shelf and restocked with it.")?;
+    println!(
+        rt,
+        "2. Two buffers of 300 and 800 bytes are joined as one shelf and restocked with it."
+    )?;
     let joined = on_joined_shelf(rt, &product)?;
     println!(rt, "3. One byte of it is damaged, at {DAMAGED}:")?;
     if let Some(byte) = product.get_mut(DAMAGED) {

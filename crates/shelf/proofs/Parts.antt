@@ -35,10 +35,8 @@ front-length {X} n xs ys e = omega (arith, ap length e, length-take n xs)
 pub stocked-length : (given buf : List ℕ) → length given ≤ length buf → length (given ++ drop (length given) buf) ≡ length buf
 stocked-length given buf h = simp (length-append, length-drop) (omega arith)
 
-pub stocked-bytes : (cap : ℕ) (given buf : List ℕ) → length given ≤ cap → take (min (length given) cap) (given ++ drop (length given) buf) ≡ given
-stocked-bytes cap given buf h =
-    let m : min (length given) cap ≡ length given = omega arith in
-    simp m (take-at given (drop (length given) buf) (length given) refl)
+pub stocked-bytes : (top : ℕ) (given buf : List ℕ) → length given ≤ top → take top (take (length given) (given ++ drop (length given) buf)) ≡ given
+stocked-bytes top given buf h = ap (take top) (take-at given (drop (length given) buf) (length given) refl) ∙ take-all top given h
 
 -- what fits is not refused
 pub fit-not-unfit : (room mark size new : ℕ) (e : Refusal) → mark < new → size ≤ room → Unfit room mark size new e → ⊥

@@ -5,7 +5,8 @@ use Prim.Native.Nat.{ℕ}
 use lib.Dec.{eqb}
 use Rattle.shelf.specs.declared.refusal.Reason.{Reason}
 use Rattle.shelf.specs.declared.refusal.Reason.the-variants.{StampNotAbove, OverCapacity, PastEnd, NotCphd, LineMalformed, KeyRepeated, KeyMissing, KeyNotNumber, BlockMisplaced, WorkTooShort, XmlMalformed, FieldMalformed, LimitBroken, ParameterBroken, ArrayMisplaced, OrderCount, NamesAbsent, SlotUnknown, SlotEmpty, PlanStale, OutputTooShort}
-use Rattle.shelf.specs.Refusals.{number}
+use Rattle.shelf.specs.declared.refusal.Refusal.{Refusal}
+use Rattle.shelf.specs.Refusals.{Place, Says, number}
 
 -- the reason of a number
 abbrev reasonOf : ℕ → Reason
@@ -57,3 +58,7 @@ reason-back OutputTooShort = refl
 
 pub one-reason : (q r : Reason) → number q ≡ number r → q ≡ r
 one-reason q r e = sym (reason-back q) ∙ ap reasonOf e ∙ reason-back r
+
+-- the number that a refusal says
+pub said : {e : Refusal} {n : ℕ} {kind : Place} {p : ℕ} → Says e n kind p → number (e .reason) ≡ n
+said {e} {n} {kind} {p} s = ap (λ (x : ℕ × Place). x .0) (s .reason)

@@ -22,7 +22,7 @@ fixedStamp f = f .stamp
 
 -- a memory shelf: the front of the client's buffer, as long as the last accepted restock
 abbrev pub memoryBytes : MemoryShelf → List ℕ
-memoryBytes s = take (min (s .count) limit) (now (s .buffer))
+memoryBytes s = take limit (take (s .count) (now (s .buffer)))
 
 abbrev pub memoryStamp : MemoryShelf → ℕ
 memoryStamp s = s .stamp

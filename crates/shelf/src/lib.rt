@@ -1,5 +1,4 @@
 // Where a product's bytes come from: sources under a stamp, shelves that can be restocked, and the refusals of every call.
-mod examples;
 mod fixed;
 mod joined;
 mod memory;
@@ -7,9 +6,6 @@ mod reads;
 mod refusal;
 mod source;
 
-pub use examples::at_the_end;
-pub use examples::restocked_in_place;
-pub use examples::shorter_restock;
 pub use fixed::FixedFile;
 pub use fixed::FixedFileSource;
 pub use joined::JoinedShelf;

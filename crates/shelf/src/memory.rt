@@ -8,6 +8,7 @@ ghost use Rattle.shelf.specs.Meaning.{limit, state, Restocks};
 ghost use Rattle.shelf.specs.Kinds.{memoryBytes, memoryStamp, memoryCapacity, bufferAfter};
 use crate::reads::fit;
 use crate::reads::read_from;
+use crate::reads::within_limit;
 use crate::refusal::Refusal;
 use crate::source::LIMIT;
 use crate::source::Shelf;
@@ -55,8 +56,8 @@ impl<'a> MemoryShelf<'a> {
         ensures value { λ r. ⌜ now r ≡ memoryBytes (now (self .entry)) ⌝ }
         ensures bound { λ r. ⌜ length (now r) ≤ limit ⌝ }
     {
-        let n = self.count.min(LIMIT as usize).min(self.buffer.len());
-        &self.buffer[0..n]
+        let n = self.count.min(self.buffer.len());
+        within_limit(&self.buffer[0..n])
     }
 }
 

@@ -1,4 +1,5 @@
 use mathlib.Core.Path.{ap, _∙_}
+use mathlib.Core.List.{List}
 use Prim.Native.Nat.{ℕ, min}
 use native.Mathlib.Omega.{arith}
 use lib.ListN.{length, take}
@@ -16,7 +17,7 @@ returns c =
       means = (
         record { above = fit .above; fits = omega arith },
         record {
-          bytes = ap (λ (n : ℕ). take (min n limit) (c .hold .last .self .buffer .now)) (held .count) ∙ ap (take (min (length given) limit)) (held .buffer) ∙ stocked-bytes limit given buf (omega arith);
+          bytes = ap (λ (n : ℕ). take limit (take n (c .hold .last .self .buffer .now))) (held .count) ∙ ap (λ (xs : List ℕ). take limit (take (length given) xs)) (held .buffer) ∙ stocked-bytes limit given buf (omega arith);
           mark = held .stamp;
           room = ap (λ (n : ℕ). min n limit) (ap length (held .buffer) ∙ stocked-length given buf (omega arith));
         },

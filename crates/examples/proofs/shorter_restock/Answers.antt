@@ -1,6 +1,6 @@
 use native.Mathlib.Omega.{arith}
 use Rattle.shelf.proofs.Parts.{fit-not-unfit}
-use Rattle.shelf.proofs.examples.shorter_restock.Needs as need
+use Rattle.examples.proofs.shorter_restock.Needs as need
 
 pub returns-in-Break-restock-2 : need.returns-in-Break-restock-2
 returns-in-Break-restock-2 c =

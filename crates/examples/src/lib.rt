@@ -1,20 +1,20 @@
-// Examples that the contracts decide.
+// Worked examples that the contracts decide: what each answers is proved.
 ghost use mathlib.Core.Path.{_≡_};
 ghost use lib.ListN.{length};
 ghost use Rattle.std.specs.Results.{Cases};
 ghost use Rattle.std.specs.declared.result.Result.the-variants.{Ok};
 ghost use Rattle.shelf.specs.Kinds.{bufferAfter};
 ghost use Rattle.shelf.specs.Refusals.{Says};
 ghost use Rattle.shelf.specs.Refusals.Place.{held};
-use crate::joined::JoinedShelf;
-use crate::joined::JoinedShelfShelf;
-use crate::joined::JoinedShelfSource;
-use crate::memory::MemoryShelf;
-use crate::memory::MemoryShelfShelf;
-use crate::memory::MemoryShelfSource;
-use crate::refusal::Refusal;
-use crate::source::Shelf;
-use crate::source::Source;
+use shelf::JoinedShelf;
+use shelf::JoinedShelfShelf;
+use shelf::JoinedShelfSource;
+use shelf::MemoryShelf;
+use shelf::MemoryShelfShelf;
+use shelf::MemoryShelfSource;
+use shelf::Refusal;
+use shelf::Shelf;
+use shelf::Source;
 
 // Two shelves of 4 bytes are joined, restocked with 8 bytes and then with 3: they have 3.
 pub fn shorter_restock() -> Result<u64, Refusal>
