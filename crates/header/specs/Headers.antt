@@ -94,6 +94,7 @@ pub record FirstMisplaced (h : Header) (len p : ℕ) : Type 0 where
 abbrev pub SmallExtent : Extent → Type 0
 SmallExtent x = (x .place < 10 ^ 18) × (x .size < 10 ^ 18)
 
+-- so have those of a support block, if there is one
 abbrev pub SmallSupport : Option Extent → Type 0
 SmallSupport None = Unit {0}
 SmallSupport (Some x) = SmallExtent x

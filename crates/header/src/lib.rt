@@ -1,3 +1,4 @@
+// The header of a CPHD 1.1.0 file: its lines, its keys, and where its blocks stand.
 mod header;
 mod keys;
 mod reader;
@@ -7,5 +8,7 @@ mod text;
 pub use header::Extent;
 pub use header::Header;
 pub use reader::head;
+pub use table::FILE_TYPE;
 pub use text::Line;
+pub use text::TERMINATOR;
 pub use text::first_line;

@@ -18,7 +18,7 @@ use shelf::Reason;
 use shelf::Refusal;
 
 // What a file begins with.
-const FILE_TYPE: &[u8] = b"CPHD/1.1.0\n";
+pub const FILE_TYPE: &[u8] = b"CPHD/1.1.0\n";
 
 // The most lines that a header has.
 const MOST_LINES: usize = 32;

@@ -16,7 +16,7 @@ pub(crate) const SEPARATOR: &[u8] = b" := ";
 const LINE_FEED: u8 = b'\n';
 
 // What ends the header, and the XML block.
-pub(crate) const TERMINATOR: [u8; 2] = *b"\x0c\n";
+pub const TERMINATOR: [u8; 2] = *b"\x0c\n";
 
 // What keys, values and numbers are made of.
 #[derive(Clone, Copy)]

@@ -1,18 +1,14 @@
 // The header of a file, line by line and block by block.
 use header::Extent;
+use header::FILE_TYPE;
 use header::Header;
+use header::TERMINATOR;
 use header::first_line;
 use header::head;
 use shelf::RefusalDisplay;
 use shelf::Source;
 use std::error::AnyError;
 use std::str::from_utf8;
-
-// The bytes of "CPHD/1.1.0" and its line feed, before the first key.
-const FILE_TYPE_LENGTH: usize = 11;
-
-// The bytes 0C 0A that close the XML block.
-const XML_END: Extent = Extent { place: 0, size: 2 };
 
 // Prints the header's lines, the blocks and the gaps between them, or the refusal; answers whether it was accepted.
 pub fn print_header<S: Source>(rt: &LibcRuntime, name: &str, source: &S) -> Result<bool, AnyError> {
@@ -53,7 +49,7 @@ fn print_lines<S: Source>(rt: &LibcRuntime, source: &S, header: &Header) -> Resu
             size: header.end,
         },
     )?;
-    let mut rest = whole.get(FILE_TYPE_LENGTH..).unwrap_or(&[]);
+    let mut rest = whole.get(FILE_TYPE.len()..).unwrap_or(&[]);
     while let Some(line) = first_line(rest) {
         let key = from_utf8(line.key)?;
         let value = from_utf8(line.value)?;
@@ -79,15 +75,11 @@ fn print_value<S: Source>(
 fn print_blocks(rt: &LibcRuntime, header: &Header) -> Result<(), AnyError> {
     println!(rt, "  header 0 {}", header.end)?;
     let end = print_block(rt, header.end, "xml", header.xml)?;
-    let end = print_block(
-        rt,
-        end,
-        "end",
-        Extent {
-            place: end,
-            size: XML_END.size,
-        },
-    )?;
+    let terminator = Extent {
+        place: end,
+        size: TERMINATOR.len() as u64,
+    };
+    let end = print_block(rt, end, "end", terminator)?;
     let end = match header.support {
         Some(support) => print_block(rt, end, "support", support)?,
         None => {

@@ -17,6 +17,7 @@ use Rattle.shelf.specs.declared.joined.JoinedShelf.{JoinedShelf}
 abbrev pub fixedBytes : FixedFile → List ℕ
 fixedBytes f = take limit (now (f .«data»))
 
+-- its stamp is the one given
 abbrev pub fixedStamp : FixedFile → ℕ
 fixedStamp f = f .stamp
 
@@ -24,6 +25,7 @@ fixedStamp f = f .stamp
 abbrev pub memoryBytes : MemoryShelf → List ℕ
 memoryBytes s = take limit (take (s .count) (now (s .buffer)))
 
+-- its stamp is that of the last accepted restock
 abbrev pub memoryStamp : MemoryShelf → ℕ
 memoryStamp s = s .stamp
 

@@ -47,6 +47,7 @@ row SlotEmpty = (51, slot)
 row PlanStale = (52, stamp)
 row OutputTooShort = (53, needed)
 
+-- the number alone
 abbrev pub number : Reason → ℕ
 number r = row r .0
 
