@@ -1,11 +1,14 @@
 // Worked examples that the contracts decide: what each answers is proved.
 ghost use mathlib.Core.Path.{_≡_};
-ghost use lib.ListN.{length};
+ghost use mathlib.Core.List.{_++_};
+ghost use Prim.Native.Nat.{min};
+ghost use lib.ListN.{length, take, drop};
 ghost use Rattle.std.specs.Results.{Cases};
 ghost use Rattle.std.specs.declared.result.Result.the-variants.{Ok};
 ghost use Rattle.shelf.specs.Kinds.{bufferAfter};
+ghost use Rattle.shelf.specs.Meaning.{limit, Fit, Unfit};
 ghost use Rattle.shelf.specs.Refusals.{Says};
-ghost use Rattle.shelf.specs.Refusals.Place.{held};
+ghost use Rattle.shelf.specs.Refusals.Place.{byte-length};
 use shelf::JoinedShelf;
 use shelf::JoinedShelfShelf;
 use shelf::JoinedShelfSource;
@@ -31,7 +34,7 @@ pub fn shorter_restock() -> Result<u64, Refusal>
 // At the end of any source an empty read passes, and a read of one byte is refused 3 with the length.
 pub fn at_the_end<S: Source>(source: &S) -> (Result<(), Refusal>, Result<(), Refusal>)
     ensures empty { λ r. ⌜ r .0 ≡ Ok tt ⌝ }
-    ensures one { λ r. ⌜ Cases (r .1) (λ _. ⊥) (λ e. Says e 3 held (length (S·Source .bytes (now (source .entry))))) ⌝ }
+    ensures one { λ r. ⌜ Cases (r .1) (λ _. ⊥) (λ e. Says e 3 byte-length (length (S·Source .bytes (now (source .entry))))) ⌝ }
 {
     let end = source.len();
     let mut one = [0u8; 1];
@@ -41,8 +44,19 @@ pub fn at_the_end<S: Source>(source: &S) -> (Result<(), Refusal>, Result<(), Ref
 
 // A buffer is made a shelf and restocked: then it begins with the bytes given, and the rest of it stays.
 pub fn restocked_in_place(buffer: &mut [u8], given: &[u8], stamp: u32) -> Result<(), Refusal>
-    ensures { λ r. ⌜ now (buffer .exit) ≡ bufferAfter (now (buffer .entry)) (now (given .entry)) r ⌝ }
+    ensures answer { λ r. ⌜ Cases r (λ _. Fit (min (length (now (buffer .entry))) limit) 0 (length (now (given .entry))) stamp) (Unfit (min (length (now (buffer .entry))) limit) 0 (length (now (given .entry))) stamp) ⌝ }
+    ensures left { λ r. ⌜ now (buffer .exit) ≡ bufferAfter (now (buffer .entry)) (now (given .entry)) r ⌝ }
 {
     let mut shelf = MemoryShelf::new(buffer);
     shelf.restock(given, stamp)
+}
+
+// Two buffers of 4 bytes are joined and restocked with 5: the first is written whole, of the second only the first byte.
+pub fn joined_in_place(near: &mut [u8; 4], far: &mut [u8; 4], given: &[u8; 5]) -> Result<(), Refusal>
+    ensures answer { λ r. ⌜ r ≡ Ok tt ⌝ }
+    ensures near { λ r. ⌜ now (near .exit) ≡ take 4 (now (given .entry)) ⌝ }
+    ensures far { λ r. ⌜ now (far .exit) ≡ drop 4 (now (given .entry)) ++ drop 1 (now (far .entry)) ⌝ }
+{
+    let mut shelf = JoinedShelf::new(MemoryShelf::new(near), MemoryShelf::new(far));
+    shelf.restock(given, 1)
 }

@@ -15,14 +15,14 @@ use crate::text::TERMINATOR;
 use shelf::Refusal;
 
 // A run of the file's bytes.
-#[derive(Clone, Copy, Debug, PartialEq, Eq)]
+#[derive(Clone, Copy, PartialEq, Eq)]
 pub struct Extent {
     pub place: u64,
     pub size: u64,
 }
 
 // Where the header ends, where its blocks stand, and where the values of two keys stand.
-#[derive(Clone, Copy, Debug, PartialEq, Eq)]
+#[derive(Clone, Copy, PartialEq, Eq)]
 pub struct Header {
     pub end: u64,
     pub xml: Extent,

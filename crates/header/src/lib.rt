@@ -6,7 +6,9 @@ mod table;
 mod text;
 
 pub use header::Extent;
+pub use header::ExtentPartialEq;
 pub use header::Header;
+pub use header::HeaderPartialEq;
 pub use reader::head;
 pub use table::FILE_TYPE;
 pub use text::Line;

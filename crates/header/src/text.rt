@@ -67,7 +67,7 @@ impl Class {
 }
 
 // A line's key and value, and the bytes behind its line feed.
-#[derive(Clone, Copy, Debug, PartialEq, Eq)]
+#[derive(Clone, Copy)]
 pub struct Line<'a> {
     pub key: &'a [u8],
     pub value: &'a [u8],

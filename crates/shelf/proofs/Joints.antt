@@ -14,9 +14,10 @@ use Rattle.std.proofs.shelf.Tests.{cases-lt}
 use Rattle.std.specs.declared.result.Result.{Result}
 use Rattle.std.specs.declared.result.Result.the-variants.{Ok, Err}
 use Rattle.shelf.specs.declared.refusal.Refusal.{Refusal}
-use Rattle.shelf.specs.Kinds.{PartsRestock}
+use Rattle.shelf.specs.declared.joined.JoinedShelf.{JoinedShelf}
+use Rattle.shelf.specs.Kinds.{PartRestocked, PartsLeft}
 use Rattle.shelf.proofs.Parts.{take-min, drop-min}
-use Rattle.shelf.specs.Meaning.{Reads, State, Fit, Restocked, Restocks, limit}
+use Rattle.shelf.specs.Meaning.{Reads, State, Fit, Restocks, limit}
 
 pub joined-length : (xs ys : List ℕ) (top : ℕ) → length (take top (xs ++ ys)) ≡ min (length xs + length ys) top
 joined-length xs ys top = length-take top (xs ++ ys) ∙ omega (arith, length-append xs ys)
@@ -126,30 +127,39 @@ joined-reads xs ys before buf1 buf2 top p k from next r h ef ek en e1 a =
 
 -- two shelves as one
 abbrev pub joined : State → State → State
-joined s t = record { bytes = take limit (s .bytes ++ t .bytes); mark = max (s .mark) (t .mark); room = min (s .room + t .room) limit }
+joined s t = record { bytes = take limit (s .bytes ++ t .bytes); stamp = max (s .stamp) (t .stamp); capacity = min (s .capacity + t .capacity) limit }
 
 -- both parts were restocked, the first with the front and the second with the rest
-module _ (s t : State) (given front back : List ℕ) (new k : ℕ) (s′ t′ : State) (r : Result Unit Refusal)
-    (cut : k ≡ min (length given) (s .room)) (f : front ≡ take k given) (b : back ≡ drop k given) (ok : r ≡ Ok tt) (a : Restocked s front new s′) (z : Restocked t back new t′) where
-  front-room : front ≡ take (s .room) given
-  front-room = let e : k ≡ min (s .room) (length given) = omega arith in f ∙ ap (λ (j : ℕ). take j given) e ∙ take-min (s .room) given
+module _ {A B : Type 0} (meanA : A → State) (leavesA : A → List ℕ → ℕ → Result Unit Refusal → A → Type 0) (meanB : B → State) (leavesB : B → List ℕ → ℕ → Result Unit Refusal → B → Type 0)
+    (s t : JoinedShelf A B) (given front back : List ℕ) (new k : ℕ) (r : Result Unit Refusal)
+    (cut : k ≡ min (length given) (meanA (s .first) .capacity)) (f : front ≡ take k given) (b : back ≡ drop k given) (ok : r ≡ Ok tt)
+    (first : PartRestocked meanA leavesA (s .first) front new (t .first)) (second : PartRestocked meanB leavesB (s .second) back new (t .second)) where
+  cut-is : k ≡ min (meanA (s .first) .capacity) (length given)
+  cut-is = omega arith
 
-  back-room : back ≡ drop (s .room) given
-  back-room = let e : k ≡ min (s .room) (length given) = omega arith in b ∙ ap (λ (j : ℕ). drop j given) e ∙ drop-min (s .room) given
+  front-is : front ≡ take (meanA (s .first) .capacity) given
+  front-is = f ∙ ap (λ (j : ℕ). take j given) cut-is ∙ take-min (meanA (s .first) .capacity) given
 
-  pub parts-restock : PartsRestock s t given new s′ t′ r
-  parts-restock = subst (PartsRestock s t given new s′ t′) (sym ok) (
-    record { bytes = a .bytes ∙ front-room; mark = a .mark; room = a .room },
-    record { bytes = z .bytes ∙ back-room; mark = z .mark; room = z .room },
+  back-is : back ≡ drop (meanA (s .first) .capacity) given
+  back-is = b ∙ ap (λ (j : ℕ). drop j given) cut-is ∙ drop-min (meanA (s .first) .capacity) given
+
+  pub parts-left : PartsLeft meanA leavesA meanB leavesB s given new r t
+  parts-left = subst (λ (q : Result Unit Refusal). PartsLeft meanA leavesA meanB leavesB s given new q t) (sym ok) (
+    subst (λ (xs : List ℕ). PartRestocked meanA leavesA (s .first) xs new (t .first)) front-is first,
+    subst (λ (xs : List ℕ). PartRestocked meanB leavesB (s .second) xs new (t .second)) back-is second,
   )
 
-  pub joined-restocks : Fit (min (s .room + t .room) limit) (max (s .mark) (t .mark)) (length given) new → Restocks (joined s t) given new (joined s′ t′) r
-  joined-restocks fit = subst (Restocks (joined s t) given new (joined s′ t′)) (sym ok) (
-    fit,
-    record {
-      bytes = ap (λ (x : List ℕ). take limit (x ++ t′ .bytes)) (a .bytes ∙ f) ∙ ap (λ (x : List ℕ). take limit (take k given ++ x)) (z .bytes ∙ b)
-          ∙ ap (take limit) (take-append-drop k given) ∙ take-all limit given (omega (arith, fit .fits));
-      mark = omega (arith, a .mark, z .mark);
-      room = omega (arith, a .room, z .room);
-    },
-  )
+  pub joined-restocks : Fit (min (meanA (s .first) .capacity + meanB (s .second) .capacity) limit) (max (meanA (s .first) .stamp) (meanB (s .second) .stamp)) (length given) new
+      → Restocks (joined (meanA (s .first)) (meanB (s .second))) given new (joined (meanA (t .first)) (meanB (t .second))) r
+  joined-restocks fit =
+      let x = first .restocked in
+      let y = second .restocked in
+      subst (Restocks (joined (meanA (s .first)) (meanB (s .second))) given new (joined (meanA (t .first)) (meanB (t .second)))) (sym ok) (
+        fit,
+        record {
+          bytes = ap (λ (z : List ℕ). take limit (z ++ meanB (t .second) .bytes)) (x .bytes ∙ f) ∙ ap (λ (z : List ℕ). take limit (take k given ++ z)) (y .bytes ∙ b)
+              ∙ ap (take limit) (take-append-drop k given) ∙ take-all limit given (omega (arith, fit .fits));
+          stamp = omega (arith, x .stamp, y .stamp);
+          capacity = omega (arith, x .capacity, y .capacity);
+        },
+      )

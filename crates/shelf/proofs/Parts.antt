@@ -39,6 +39,6 @@ pub stocked-bytes : (top : ℕ) (given buf : List ℕ) → length given ≤ top 
 stocked-bytes top given buf h = ap (take top) (take-at given (drop (length given) buf) (length given) refl) ∙ take-all top given h
 
 -- what fits is not refused
-pub fit-not-unfit : (room mark size new : ℕ) (e : Refusal) → mark < new → size ≤ room → Unfit room mark size new e → ⊥
-fit-not-unfit room mark size new e above fits (not-above le says) = omega arith
-fit-not-unfit room mark size new e above fits (too-long lt over says) = omega arith
+pub fit-not-unfit : (capacity stamp size new : ℕ) (e : Refusal) → stamp < new → size ≤ capacity → Unfit capacity stamp size new e → ⊥
+fit-not-unfit capacity stamp size new e above fits (not-above le says) = omega arith
+fit-not-unfit capacity stamp size new e above fits (too-long lt over says) = omega arith

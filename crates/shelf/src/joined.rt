@@ -4,11 +4,11 @@ ghost use mathlib.Core.List.{_++_};
 ghost use Prim.Native.Nat.{_+_, _-_, min, max};
 ghost use lib.ListN.{length, take};
 ghost use Rattle.std.specs.declared.result.Result.the-variants.{Ok};
-ghost use Rattle.shelf.specs.Meaning.{limit, state, Fit, Restocked, Restocks};
-ghost use Rattle.shelf.specs.Kinds.{joinedBytes, joinedStamp, joinedCapacity, PartsRestock};
+ghost use Rattle.shelf.specs.Meaning.{limit, state, Fit};
+ghost use Rattle.shelf.specs.Kinds.{joinedBytes, joinedStamp, joinedCapacity, PartRestocked, PartsLeft};
 use crate::reads::fit;
+use crate::reads::inside;
 use crate::reads::joined_size;
-use crate::refusal::Reason;
 use crate::refusal::Refusal;
 use crate::source::Shelf;
 use crate::source::Source;
@@ -54,8 +54,8 @@ impl<A: Shelf, B: Shelf> JoinedShelf<A, B> {
         requires first { ⌜ Fit (A·Shelf .capacity (now self .first)) (A·Source .stamp (now self .first)) (length (now front)) stamp ⌝ }
         requires second { ⌜ Fit (B·Shelf .capacity (now self .second)) (B·Source .stamp (now self .second)) (length (now back)) stamp ⌝ }
         ensures both { λ r. ⌜ r ≡ Ok tt ⌝ }
-        ensures first { λ _. ⌜ Restocked (state (A·Source .bytes) (A·Source .stamp) (A·Shelf .capacity) (now (self .entry) .first)) (now (front .entry)) stamp (state (A·Source .bytes) (A·Source .stamp) (A·Shelf .capacity) (now (self .exit) .first)) ⌝ }
-        ensures second { λ _. ⌜ Restocked (state (B·Source .bytes) (B·Source .stamp) (B·Shelf .capacity) (now (self .entry) .second)) (now (back .entry)) stamp (state (B·Source .bytes) (B·Source .stamp) (B·Shelf .capacity) (now (self .exit) .second)) ⌝ }
+        ensures first { λ _. ⌜ PartRestocked (state (A·Source .bytes) (A·Source .stamp) (A·Shelf .capacity)) (A·Shelf .leaves) (now (self .entry) .first) (now (front .entry)) stamp (now (self .exit) .first) ⌝ }
+        ensures second { λ _. ⌜ PartRestocked (state (B·Source .bytes) (B·Source .stamp) (B·Shelf .capacity)) (B·Shelf .leaves) (now (self .entry) .second) (now (back .entry)) stamp (now (self .exit) .second) ⌝ }
     {
         self.first.restock(front, stamp)?;
         self.second.restock(back, stamp)?;
@@ -77,14 +77,8 @@ pub impl<A: Source, B: Source> Source for JoinedShelf<A, B> as JoinedShelfSource
     }
 
     fn read(&self, place: u64, buffer: &mut [u8]) -> Result<(), Refusal> {
-        let held = self.len();
         let wanted = buffer.len() as u64;
-        if place > held || wanted > held - place {
-            return Err(Refusal {
-                reason: Reason::PastEnd,
-                place: held,
-            });
-        }
+        inside(self.len(), place, wanted)?;
         let Cut { from, near, next } = cut_at(self.first.len(), place, wanted);
         self.first.read(from, &mut buffer[0..near as usize])?;
         self.second.read(next, &mut buffer[near as usize..])
@@ -94,14 +88,13 @@ pub impl<A: Source, B: Source> Source for JoinedShelf<A, B> as JoinedShelfSource
 pub impl<A: Shelf, B: Shelf> Shelf for JoinedShelf<A, B> as JoinedShelfShelf {
     ghost capacity = { joinedCapacity (A·Shelf .capacity) (B·Shelf .capacity) };
 
+    ghost leaves = { PartsLeft (state (A·Source .bytes) (A·Source .stamp) (A·Shelf .capacity)) (A·Shelf .leaves) (state (B·Source .bytes) (B·Source .stamp) (B·Shelf .capacity)) (B·Shelf .leaves) };
+
     fn capacity(&self) -> u64 {
         joined_size(self.first.capacity(), self.second.capacity())
     }
 
-    fn restock(&mut self, given: &[u8], stamp: u32) -> Result<(), Refusal>
-        ensures means { λ r. ⌜ Restocks (state (joinedBytes (A·Source .bytes) (B·Source .bytes)) (joinedStamp (A·Source .stamp) (B·Source .stamp)) (joinedCapacity (A·Shelf .capacity) (B·Shelf .capacity)) (now (self .entry))) (now (given .entry)) stamp (state (joinedBytes (A·Source .bytes) (B·Source .bytes)) (joinedStamp (A·Source .stamp) (B·Source .stamp)) (joinedCapacity (A·Shelf .capacity) (B·Shelf .capacity)) (now (self .exit))) r ⌝ }
-        ensures parts { λ r. ⌜ PartsRestock (state (A·Source .bytes) (A·Source .stamp) (A·Shelf .capacity) (now (self .entry) .first)) (state (B·Source .bytes) (B·Source .stamp) (B·Shelf .capacity) (now (self .entry) .second)) (now (given .entry)) stamp (state (A·Source .bytes) (A·Source .stamp) (A·Shelf .capacity) (now (self .exit) .first)) (state (B·Source .bytes) (B·Source .stamp) (B·Shelf .capacity) (now (self .exit) .second)) r ⌝ }
-    {
+    fn restock(&mut self, given: &[u8], stamp: u32) -> Result<(), Refusal> {
         let count = given.len() as u64;
         fit(self.capacity(), self.stamp(), count, stamp)?;
         let cut = count.min(self.first.capacity()) as usize;

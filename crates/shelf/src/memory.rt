@@ -4,8 +4,8 @@ ghost use mathlib.Core.List.{[], _++_};
 ghost use Prim.Native.Nat.{_≤_, min};
 ghost use lib.ListN.{length, drop};
 ghost use denote.Ref.{name};
-ghost use Rattle.shelf.specs.Meaning.{limit, state, Restocks};
-ghost use Rattle.shelf.specs.Kinds.{memoryBytes, memoryStamp, memoryCapacity, bufferAfter};
+ghost use Rattle.shelf.specs.Meaning.{limit};
+ghost use Rattle.shelf.specs.Kinds.{memoryBytes, memoryStamp, memoryCapacity, BufferLeft};
 use crate::reads::fit;
 use crate::reads::read_from;
 use crate::reads::within_limit;
@@ -82,15 +82,13 @@ pub impl<'a> Source for MemoryShelf<'a> as MemoryShelfSource {
 pub impl<'a> Shelf for MemoryShelf<'a> as MemoryShelfShelf {
     ghost capacity = { memoryCapacity };
 
+    ghost leaves = { BufferLeft };
+
     fn capacity(&self) -> u64 {
         (self.buffer.len() as u64).min(LIMIT)
     }
 
-    fn restock(&mut self, given: &[u8], stamp: u32) -> Result<(), Refusal>
-        ensures means { λ r. ⌜ Restocks (state memoryBytes memoryStamp memoryCapacity (now (self .entry))) (now (given .entry)) stamp (state memoryBytes memoryStamp memoryCapacity (now (self .exit))) r ⌝ }
-        ensures buffer { λ r. ⌜ now (now (self .exit) .buffer) ≡ bufferAfter (now (now (self .entry) .buffer)) (now (given .entry)) r ⌝ }
-        ensures lent { λ _. ⌜ name (now (self .exit) .buffer) ≡ name (now (self .entry) .buffer) ⌝ }
-    {
+    fn restock(&mut self, given: &[u8], stamp: u32) -> Result<(), Refusal> {
         fit(self.capacity(), self.stamp, given.len() as u64, stamp)?;
         self.hold(given, stamp);
         Ok(())

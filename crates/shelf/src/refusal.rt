@@ -7,7 +7,7 @@ ghost use Rattle.shelf.specs.Sentences.{sentence, shown};
 use std::fmt;
 
 // Each reason stands for a number, by which callers and documents name it.
-#[derive(Clone, Copy, Debug, Eq)]
+#[derive(Clone, Copy, Eq)]
 pub enum Reason {
     // Shelves and sources.
     StampNotAbove = 1,
@@ -39,7 +39,7 @@ pub enum Reason {
 }
 
 // A refusal: its reason, and a place whose meaning the reason fixes (a stamp, a length, a place in the file, a code).
-#[derive(Clone, Copy, Debug, PartialEq, Eq)]
+#[derive(Clone, Copy, PartialEq, Eq)]
 pub struct Refusal {
     pub reason: Reason,
     pub place: u64,
@@ -75,14 +75,15 @@ impl Reason {
                 "the working buffer is shorter than the XML block, whose size is the place",
             Reason::XmlMalformed => "the XML block breaks the grammar",
             Reason::FieldMalformed =>
-                "the field whose code is the place is missing, repeated, not plain text or no number",
+                "the root (0) or the field whose code is the place is wrong, missing, repeated, not plain text or no number",
             Reason::LimitBroken => "the field whose code is the place breaks its limit",
             Reason::ParameterBroken =>
-                "the parameter whose code is the place is absent, misplaced, or unlike its definition",
+                "the parameter whose code is the place is absent, of wrong size, format or name, outside the set, or shares a word or a name",
             Reason::ArrayMisplaced =>
                 "an array of the channel that is the place leaves its block or overlaps",
             Reason::OrderCount => "the sheet has no orders, or more than 32; the place is how many",
-            Reason::NamesAbsent => "the order at the place, counted from 0, names what is absent",
+            Reason::NamesAbsent =>
+                "what is named is absent; the place is the order, counted from 0, and 0 for a view",
             Reason::SlotUnknown => "there is no slot of the number that is the place",
             Reason::SlotEmpty => "the slot that is the place is empty",
             Reason::PlanStale =>

@@ -3,6 +3,8 @@ ghost use mathlib.Core.Path.{_≡_};
 ghost use mathlib.Core.List.{List};
 ghost use Prim.Native.Nat.{ℕ, _≤_};
 ghost use lib.ListN.{length};
+ghost use Rattle.std.specs.declared.result.Result.{Result};
+ghost use Rattle.shelf.specs.declared.refusal.Refusal.{Refusal};
 ghost use Rattle.shelf.specs.Meaning.{limit, state, Reads, Restocks};
 use crate::refusal::Refusal;
 
@@ -31,11 +33,15 @@ pub trait Source {
 pub trait Shelf: Source {
     ghost capacity: { Self → ℕ };
 
+    // What a restock with these bytes under this stamp leaves of the shelf besides its meaning, by the answer.
+    ghost leaves: { Self → List ℕ → ℕ → Result Unit Refusal → Self → Type 0 };
+
     fn capacity(&self) -> u64
         ensures value { λ r. ⌜ r ≡ capacity (now (self .entry)) ⌝ }
         ensures bound { λ r. ⌜ r ≤ limit ⌝ };
 
     // Makes bytes and stamp those given; refused 1 with the shelf's stamp, else 2 with its capacity, and then nothing changes.
     fn restock(&mut self, given: &[u8], stamp: u32) -> Result<(), Refusal>
-        ensures { λ r. ⌜ Restocks (state (Self·Source .bytes) (Self·Source .stamp) capacity (now (self .entry))) (now (given .entry)) stamp (state (Self·Source .bytes) (Self·Source .stamp) capacity (now (self .exit))) r ⌝ };
+        ensures means { λ r. ⌜ Restocks (state (Self·Source .bytes) (Self·Source .stamp) capacity (now (self .entry))) (now (given .entry)) stamp (state (Self·Source .bytes) (Self·Source .stamp) capacity (now (self .exit))) r ⌝ }
+        ensures leaves { λ r. ⌜ leaves (now (self .entry)) (now (given .entry)) stamp r (now (self .exit)) ⌝ };
 }

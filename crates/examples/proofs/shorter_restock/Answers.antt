@@ -5,4 +5,4 @@ use Rattle.examples.proofs.shorter_restock.Needs as need
 pub returns-in-Break-restock-2 : need.returns-in-Break-restock-2
 returns-in-Break-restock-2 c =
     let first = c .in-Continue-restock .ensures tt .means in
-    absurd (fit-not-unfit _ _ _ _ _ (omega (arith, first .1 .mark)) (omega (arith, first .1 .room, first .0 .fits)) (c .in-Break-restock-2 .ensures tt .means .0))
+    absurd (fit-not-unfit _ _ _ _ _ (omega (arith, first .1 .stamp)) (omega (arith, first .1 .capacity, first .0 .fits)) (c .in-Break-restock-2 .ensures tt .means .0))

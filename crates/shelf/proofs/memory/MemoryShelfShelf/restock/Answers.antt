@@ -18,10 +18,9 @@ returns c =
         record { above = fit .above; fits = omega arith },
         record {
           bytes = ap (λ (n : ℕ). take limit (take n (c .hold .last .self .buffer .now))) (held .count) ∙ ap (λ (xs : List ℕ). take limit (take (length given) xs)) (held .buffer) ∙ stocked-bytes limit given buf (omega arith);
-          mark = held .stamp;
-          room = ap (λ (n : ℕ). min n limit) (ap length (held .buffer) ∙ stocked-length given buf (omega arith));
+          stamp = held .stamp;
+          capacity = ap (λ (n : ℕ). min n limit) (ap length (held .buffer) ∙ stocked-length given buf (omega arith));
         },
       );
-      buffer = held .buffer;
-      lent = held .lent;
+      leaves = record { holds = held .buffer; lent = held .lent };
     }

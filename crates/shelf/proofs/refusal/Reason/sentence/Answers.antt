@@ -31,3 +31,9 @@ returns-in-FieldMalformed c = ap sentence (sym (c .in-FieldMalformed .is))
 
 pub returns-in-OutputTooShort : need.returns-in-OutputTooShort
 returns-in-OutputTooShort c = ap sentence (sym (c .in-OutputTooShort .is))
+
+pub returns-in-ParameterBroken : need.returns-in-ParameterBroken
+returns-in-ParameterBroken c = ap sentence (sym (c .in-ParameterBroken .is))
+
+pub returns-in-NamesAbsent : need.returns-in-NamesAbsent
+returns-in-NamesAbsent c = ap sentence (sym (c .in-NamesAbsent .is))
