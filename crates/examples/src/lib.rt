@@ -1,10 +1,10 @@
 // Worked examples that the contracts decide: what each answers is proved.
 ghost use mathlib.Core.Path.{_≡_};
-ghost use mathlib.Core.List.{_++_};
 ghost use Prim.Native.Nat.{min};
-ghost use lib.ListN.{length, take, drop};
+ghost use lib.ListN.{length};
 ghost use Rattle.std.specs.Results.{Cases};
 ghost use Rattle.std.specs.declared.result.Result.the-variants.{Ok};
+ghost use Rattle.examples.specs.Restocks.{ShorterRestock};
 ghost use Rattle.shelf.specs.Kinds.{bufferAfter};
 ghost use Rattle.shelf.specs.Meaning.{limit, Fit, Unfit};
 ghost use Rattle.shelf.specs.Refusals.{Says};
@@ -19,9 +19,10 @@ use shelf::Refusal;
 use shelf::Shelf;
 use shelf::Source;
 
-// Two shelves of 4 bytes are joined, restocked with 8 bytes and then with 3: they have 3.
+// Two shelves of 4 bytes are joined, restocked with 8 bytes and then with 3: they have 3, as any shelf of that capacity has.
 pub fn shorter_restock() -> Result<u64, Refusal>
-    ensures { λ r. ⌜ r ≡ Ok 3 ⌝ }
+    ensures answer { λ r. ⌜ r ≡ Ok 3 ⌝ }
+    ensures always { λ _. ⌜ ShorterRestock ⌝ }
 {
     let mut near = [0u8; 4];
     let mut far = [0u8; 4];
@@ -49,14 +50,4 @@ pub fn restocked_in_place(buffer: &mut [u8], given: &[u8], stamp: u32) -> Result
 {
     let mut shelf = MemoryShelf::new(buffer);
     shelf.restock(given, stamp)
-}
-
-// Two buffers of 4 bytes are joined and restocked with 5: the first is written whole, of the second only the first byte.
-pub fn joined_in_place(near: &mut [u8; 4], far: &mut [u8; 4], given: &[u8; 5]) -> Result<(), Refusal>
-    ensures answer { λ r. ⌜ r ≡ Ok tt ⌝ }
-    ensures near { λ r. ⌜ now (near .exit) ≡ take 4 (now (given .entry)) ⌝ }
-    ensures far { λ r. ⌜ now (far .exit) ≡ drop 4 (now (given .entry)) ++ drop 1 (now (far .entry)) ⌝ }
-{
-    let mut shelf = JoinedShelf::new(MemoryShelf::new(near), MemoryShelf::new(far));
-    shelf.restock(given, 1)
 }

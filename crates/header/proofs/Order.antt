@@ -18,8 +18,8 @@ use Rattle.header.specs.declared.keys.Key.{Key}
 use Rattle.header.specs.Lines.{Begins, HeaderLine, HeaderText, Malformed, Distinct, RepeatedAt, fileType, linesStart}
 use Rattle.header.specs.Keys.{code, lastNumber, Missing, NotNumber, Complete}
 use Rattle.header.specs.Tables.LinesRefused.{other-type, malformed}
-use Rattle.header.specs.Headers.{Stated, StageRefusal, InOrder, Misplaced, FirstMisplaced, blockOrder}
-use Rattle.header.specs.Headers.StageRefusal.{lines, repeated, missing, not-number}
+use Rattle.header.specs.Headers.{Stated, NotStated, InOrder, Misplaced, FirstMisplaced, blockOrder}
+use Rattle.header.specs.Headers.NotStated.{lines, repeated, missing, not-number}
 use Rattle.header.specs.Headers.Misplaced.{xml-early, support-early, pvp-early, signal-early, not-whole}
 use Rattle.header.specs.Rows.{front, Terminated, LawfulHeader, Row, placeOrder, Refused, Answer}
 use Rattle.header.specs.Rows.Row.{other-type as row-type, malformed as row-malformed, repeated as row-repeated, missing as row-missing, not-number as row-not-number, misplaced as row-misplaced, unterminated as row-unterminated}
@@ -157,7 +157,7 @@ refused-by file e n r is clear first = record {
 }
 
 -- what a stage refuses
-pub refused-stage : (file : List ℕ) (e : Refusal) → StageRefusal (front file) e → Refused file e
+pub refused-stage : (file : List ℕ) (e : Refusal) → NotStated (front file) e → Refused file e
 refused-stage file e (lines (other-type s h)) =
     refused-by file e n10 (row-type s h) (said s) (clear10 file) (λ q lt x. omega (arith, lt, x .0, s .place))
 refused-stage file e (lines (malformed p s m)) =

@@ -11,7 +11,7 @@ use Rattle.header.specs.declared.header.Extent.{Extent}
 use Rattle.header.specs.declared.header.Header.{Header}
 use Rattle.header.specs.declared.keys.Key.the-variants.{XmlSize, XmlPlace, SupportSize, SupportPlace, PvpSize, PvpPlace, SignalSize, SignalPlace, Classification, ReleaseInfo}
 use Rattle.header.specs.Lines.{HeaderLine, HeaderText, Distinct, RepeatedRefused, Absent, Stands}
-use Rattle.header.specs.Keys.{name, HasNumber, Complete, MissingRefused, NumbersRefused}
+use Rattle.header.specs.Keys.{name, code, HasNumber, Complete, MissingRefused, NumbersRefused}
 use Rattle.header.specs.Tables.{LinesRefused}
 
 -- the two keys of the support block are absent where there is none, and else say where it stands
@@ -37,11 +37,11 @@ pub record Stated (head : List ℕ) (h : Header) : Type 0 where
   pub release : Stands ls (name ReleaseInfo) (h .«release_info»)
 
 -- why head states no header, by the first stage that fails: the lines, repeated keys, missing keys, numbers
-pub data StageRefusal (head : List ℕ) (e : Refusal) : Type 0 where
-  lines : LinesRefused head e → StageRefusal head e
-  repeated : (ls : List HeaderLine) (at : ℕ) → HeaderText head ls at → RepeatedRefused ls e → StageRefusal head e
-  missing : (ls : List HeaderLine) (at : ℕ) → HeaderText head ls at → Distinct ls → MissingRefused ls e → StageRefusal head e
-  not-number : (ls : List HeaderLine) (at : ℕ) → HeaderText head ls at → Distinct ls → Complete ls → NumbersRefused ls e → StageRefusal head e
+pub data NotStated (head : List ℕ) (e : Refusal) : Type 0 where
+  lines : LinesRefused head e → NotStated head e
+  repeated : (ls : List HeaderLine) (at : ℕ) → HeaderText head ls at → RepeatedRefused ls e → NotStated head e
+  missing : (ls : List HeaderLine) (at : ℕ) → HeaderText head ls at → Distinct ls → MissingRefused ls e → NotStated head e
+  not-number : (ls : List HeaderLine) (at : ℕ) → HeaderText head ls at → Distinct ls → Complete ls → NumbersRefused ls e → NotStated head e
 
 -- where a block ends
 abbrev pub ends : Extent → ℕ
@@ -73,17 +73,17 @@ pub record InOrder (h : Header) (len : ℕ) : Type 0 where
   pub signal : ends (h .pvp) ≤ h .signal .place
   pub whole : ends (h .signal) ≡ len
 
--- a block stands where it may not: p is the code that the refusal names
+-- a block stands where it may not; p is the code that the refusal names: of its offset, or of the signal block's size
 pub data Misplaced (h : Header) (len p : ℕ) : Type 0 where
-  xml-early : p ≡ 2 → h .xml .place < h .end → Misplaced h len p
-  support-early : p ≡ 4 → Early (h .support) (xmlEnd h) → Misplaced h len p
-  pvp-early : p ≡ 6 → h .pvp .place < supportEnd h → Misplaced h len p
-  signal-early : p ≡ 8 → h .signal .place < ends (h .pvp) → Misplaced h len p
-  not-whole : p ≡ 7 → (ends (h .signal) ≡ len → ⊥) → Misplaced h len p
+  xml-early : p ≡ code XmlPlace → h .xml .place < h .end → Misplaced h len p
+  support-early : p ≡ code SupportPlace → Early (h .support) (xmlEnd h) → Misplaced h len p
+  pvp-early : p ≡ code PvpPlace → h .pvp .place < supportEnd h → Misplaced h len p
+  signal-early : p ≡ code SignalPlace → h .signal .place < ends (h .pvp) → Misplaced h len p
+  not-whole : p ≡ code SignalSize → (ends (h .signal) ≡ len → ⊥) → Misplaced h len p
 
 -- the codes of misplaced blocks come in the order 2, 4, 6, 8, 7, 1
 abbrev pub blockOrder : ℕ → ℕ
-blockOrder p = cond (eqb p 7) 9 (cond (eqb p 1) 10 p)
+blockOrder p = cond (eqb p (code SignalSize)) 9 (cond (eqb p (code XmlSize)) 10 p)
 
 -- p is the first of these codes that applies
 pub record FirstMisplaced (h : Header) (len p : ℕ) : Type 0 where

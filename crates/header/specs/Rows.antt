@@ -14,6 +14,7 @@ use Rattle.shelf.specs.Refusals.{Says, number}
 use Rattle.shelf.specs.Refusals.Place.{nothing, line, key, block}
 use Rattle.header.specs.declared.header.Header.{Header}
 use Rattle.header.specs.declared.keys.Key.{Key}
+use Rattle.header.specs.declared.keys.Key.the-variants.{XmlSize}
 use Rattle.header.specs.Lines.{HeaderLine, Begins, HeaderText, Malformed, RepeatedAt, fileType, terminator, headerLimit}
 use Rattle.header.specs.Keys.{code, lastNumber, Missing, NotNumber}
 use Rattle.header.specs.Headers.{Stated, InOrder, Misplaced, blockOrder, ends}
@@ -47,7 +48,7 @@ pub data Row (file : List ℕ) (e : Refusal) : Type 0 where
   -- a block starts too early, or the last does not end with the file
   misplaced : (p : ℕ) → Says e 15 block p → (h : Header) → Stated (front file) h → Misplaced h (length file) p → Row file e
   -- the XML block has no terminator
-  unterminated : Says e 15 block 1 → (h : Header) → Stated (front file) h → (Terminated file h → ⊥) → Row file e
+  unterminated : Says e 15 block (code XmlSize) → (h : Header) → Stated (front file) h → (Terminated file h → ⊥) → Row file e
 
 -- within a number the lower place comes first, but 15 has its own order
 abbrev pub placeOrder : ℕ → ℕ → ℕ

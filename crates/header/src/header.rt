@@ -8,7 +8,7 @@ ghost use Rattle.std.specs.Orderings.{Decides};
 ghost use Rattle.std.specs.Results.{Cases};
 ghost use Rattle.std.specs.Options.{Cases as BySome};
 ghost use Rattle.header.specs.Lines.{headerLimit};
-ghost use Rattle.header.specs.Headers.{Stated, StageRefusal, ends, xmlEnd, supportEnd, Early, Small, SmallExtent, InOrder, FirstMisplaced};
+ghost use Rattle.header.specs.Headers.{Stated, NotStated, ends, xmlEnd, supportEnd, Early, Small, SmallExtent, InOrder, FirstMisplaced};
 use crate::keys::Key;
 use crate::table::Table;
 use crate::text::TERMINATOR;
@@ -46,7 +46,7 @@ impl Header {
     // What `head` states, before its blocks are compared with the file.
     pub(crate) fn stated(head: &[u8]) -> Result<Header, Refusal>
         requires { ⌜ length (now head) ≤ headerLimit ⌝ }
-        ensures { λ r. ⌜ Cases r (λ h. Stated (now (head .entry)) h) (λ e. StageRefusal (now (head .entry)) e) ⌝ }
+        ensures { λ r. ⌜ Cases r (λ h. Stated (now (head .entry)) h) (λ e. NotStated (now (head .entry)) e) ⌝ }
     {
         let table = Table::read(head)?;
         table.distinct(head)?;

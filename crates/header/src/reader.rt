@@ -56,7 +56,7 @@ fn front_size(len: u64) -> usize
     len.min(HEADER_LIMIT as u64) as usize
 }
 
-// The same, where the file's first bytes are read into `buffer`.
+// The header of the file, whose first bytes are read into `buffer`.
 fn head_in<S: Source>(source: &S, buffer: &mut [u8]) -> Result<Header, Refusal>
     requires { ⌜ length (now buffer) ≡ headerLimit ⌝ }
     ensures { λ r. ⌜ Answer (S·Source .bytes (now (source .entry))) r ⌝ }
@@ -66,7 +66,7 @@ fn head_in<S: Source>(source: &S, buffer: &mut [u8]) -> Result<Header, Refusal>
     parsed(source, &buffer[0..n])
 }
 
-// The header of the file, or the first refusal that applies. It reads the first 4,096 bytes and the two behind the XML block.
+// The header of the file, or the first refusal that applies.
 pub fn head<S: Source>(source: &S) -> Result<Header, Refusal>
     ensures answer { λ r. ⌜ Answer (S·Source .bytes (now (source .entry))) r ⌝ }
     ensures only { λ r. ⌜ ((s : Result Header Refusal) → Answer (S·Source .bytes (now (source .entry))) s → s ≡ r) ⌝ }

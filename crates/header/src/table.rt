@@ -58,6 +58,7 @@ impl Table {
         }; MOST_LINES];
         let mut count = 0;
         let mut end = FILE_TYPE.len();
+        // The label is the loop's name in its proof.
         'lines: while !head[end..].starts_with(&TERMINATOR) {
             if is_full(count) {
                 return Err(malformed(end));

@@ -4,7 +4,7 @@ use lib.ListN.{length, drop, length-take}
 use Rattle.std.proofs.shelf.Results.{err-from-errBy}
 use Rattle.std.proofs.shelf.Tests.{false≢true}
 use Rattle.header.specs.Lines.{Begins, terminator, headerLimit}
-use Rattle.header.specs.Headers.{StageRefusal, Stated, InOrder, FirstMisplaced}
+use Rattle.header.specs.Headers.{NotStated, Stated, InOrder, FirstMisplaced}
 use Rattle.header.specs.Rows.{front}
 use Rattle.header.proofs.Stating.{small-from}
 use Rattle.header.proofs.Order.{refused-stage, refused-misplaced, refused-unterminated}
@@ -18,7 +18,7 @@ stated-requires g c κs = omega (arith, ap length (c .pre), length-take headerLi
 pub returns-in-Break-header : need.returns-in-Break-header
 returns-in-Break-header g c =
     let p = err-from-errBy (c .from-residual .result) (c .from-residual .ensures .1) in
-    rw (p .1, p .2) (refused-stage _ _ (subst (λ z. StageRefusal z (c .in-Break-header .field-0 .0)) (c .pre) (c .in-Break-header .ensures tt)))
+    rw (p .1, p .2) (refused-stage _ _ (subst (λ z. NotStated z (c .in-Break-header .field-0 .0)) (c .pre) (c .in-Break-header .ensures tt)))
 
 -- what the header states, of the file
 stated : (g : given.Over) (c : In-Continue-header g) → Stated (front (g .S·Source .bytes (c .args .source .now))) (c .in-Continue-header .header)

@@ -1,7 +1,7 @@
 use native.Mathlib.Omega.{arith}
 use Rattle.std.proofs.shelf.Results.{err-from-errBy}
 use Rattle.header.specs.declared.keys.Key.the-variants.{Classification, ReleaseInfo}
-use Rattle.header.specs.Headers.StageRefusal.{lines, repeated, missing, not-number}
+use Rattle.header.specs.Headers.NotStated.{lines, repeated, missing, not-number}
 use Rattle.header.proofs.Stating.{terminator-fits, stated-from}
 use Rattle.header.proofs.header.Header.stated.Needs as need
 
