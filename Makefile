@@ -5,9 +5,8 @@ demo: target/bin/cphd
 target/bin/cphd: $(shell find crates -type f -not -path '*/must-fail/*')
 	rt check cphd
 
-# The gate: everything is proved from nothing, each planted bug is refused, the programs run; then the program's statuses.
+# The gate: the program's statuses; then everything is proved from nothing, each planted bug is refused, the programs run.
 test:
 	bash .ci/run
-	bash tests/program.sh
 
 .PHONY: demo test
