@@ -139,9 +139,8 @@ impl Table {
         requires { ⌜ TableOf (now head) (now self) ⌝ }
         ensures { λ r. ⌜ Cases r (λ _. Complete (linesOf (now (head .entry)) (now (self .entry)))) (λ e. MissingRefused (linesOf (now (head .entry)) (now (self .entry))) e) ⌝ }
     {
-        for i in 0..KEY_COUNT {
-            let key = KEYS[i];
-            if self.is_missing(head, key) {
+        for key in &KEYS {
+            if self.is_missing(head, *key) {
                 return Err(Refusal {
                     reason: Reason::KeyMissing,
                     place: key.code(),
