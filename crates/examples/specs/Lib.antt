@@ -1,1 +1,2 @@
 pub mod Restocks
+pub mod Headers

@@ -2,7 +2,7 @@ use borrow.Author.Needs.{needs}
 use native.Mathlib.Omega.{arith}
 use Rattle.shelf.proofs.Parts.{fit-not-unfit}
 use Rattle.examples.proofs.Shorter.{shorter-restock}
-use Rattle.examples.proofs.shorter_restock.Needs as need
+use Rattle.examples.proofs.restocks.shorter_restock.Needs as need
 
 pub returns-in-Break-restock-2 : need.returns-in-Break-restock-2
 returns-in-Break-restock-2 c =
