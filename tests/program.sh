@@ -23,7 +23,9 @@ expect 1 '^  refused 10 0: ' header "$data/version_1_0_1.cphd"
 expect 1 '^  refused 11 63: ' header "$data/no_space_before_colon.cphd"
 expect 1 '^  refused 14 5: ' header "$data/small.cphd" "$data/digits_19.cphd"
 expect 0 '^2 files, 1 accepted, 1 refused$' headers "$data/digits_18.cphd" "$data/digits_19.cphd"
-expect 1 'could not be read' header "$data/absent.cphd"
+expect 1 'absent.cphd cannot be read' header "$data/absent.cphd" "$data/small.cphd"
+expect 1 '^  accepted$' header "$data/absent.cphd" "$data/small.cphd"
+expect 1 '^1 files, 1 accepted, 0 refused$' headers "$data/absent.cphd" "$data/small.cphd"
 expect 1 'at least one file' header
 expect 1 'a command is expected'
 expect 1 'unknown command `frobnicate`' frobnicate

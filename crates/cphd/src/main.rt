@@ -13,19 +13,21 @@ const HELP: &str = "cphd reads CPHD 1.1.0 products (compensated phase history da
 
 usage:
   cphd header FILE...    print each file's header: keys and values, blocks, gaps;
-                         status 1 where a file is refused
-  cphd headers FILE...   the same, and at the end how many were accepted; status 0
+                         status 1 where a file is refused or cannot be read
+  cphd headers FILE...   the same, and at the end how many were accepted;
+                         status 0 where every file could be read
   cphd demo              read the header of a built-in product, whole, joined and damaged
   cphd help              print this page
 
 A block is printed as NAME PLACE SIZE, in bytes from the start of the file.
 A refusal is printed as: refused NUMBER PLACE: SENTENCE.";
 
-// How many of the files that were read were accepted.
+// How many files were read, how many of them were accepted, and how many could not be read.
 #[derive(Drop)]
 struct Count {
     files: u64,
     accepted: u64,
+    unread: u64,
 }
 
 fn main(rt: LibcRuntime) -> Result<(), AnyError> {
@@ -45,16 +47,17 @@ fn run(rt: &LibcRuntime) -> Result<bool, AnyError> {
     match command.as_str() {
         "header" => {
             let count = print_headers(rt, args)?;
-            Ok(count.accepted == count.files)
+            Ok(count.accepted == count.files && count.unread == 0)
         }
         "headers" => {
-            let Count { files, accepted } = print_headers(rt, args)?;
-            println!(
-                rt,
-                "{files} files, {accepted} accepted, {} refused",
-                files.saturating_sub(accepted)
-            )?;
-            Ok(true)
+            let Count {
+                files,
+                accepted,
+                unread,
+            } = print_headers(rt, args)?;
+            let refused = files.saturating_sub(accepted);
+            println!(rt, "{files} files, {accepted} accepted, {refused} refused")?;
+            Ok(unread == 0)
         }
         "demo" => run_demo(rt),
         "help" => {
@@ -68,30 +71,28 @@ fn run(rt: &LibcRuntime) -> Result<bool, AnyError> {
     }
 }
 
-fn print_headers(rt: &LibcRuntime, files: Args) -> Result<Count, AnyError> {
+// Prints the header of each file; one that cannot be read is named on standard error.
+fn print_headers(rt: &LibcRuntime, paths: Args) -> Result<Count, AnyError> {
     let mut count = Count {
         files: 0,
         accepted: 0,
+        unread: 0,
     };
-    for path in files {
-        let accepted = print_file(rt, path.as_str())?;
+    for path in paths {
+        let Ok(bytes) = fs::read(rt, path.as_str()) else {
+            eprintln!(rt, "cphd: {path} cannot be read")?;
+            count.unread = count.unread.saturating_add(1);
+            continue;
+        };
+        let name = Path::new(path.as_str())
+            .file_name()
+            .unwrap_or(path.as_str());
+        let accepted = print_header(rt, name, &FixedFile::new(&bytes, 0))?;
         count.files = count.files.saturating_add(1);
         count.accepted = count.accepted.saturating_add(u64::from(accepted));
     }
-    if count.files == 0 {
+    if count.files == 0 && count.unread == 0 {
         return Err("at least one file is expected".into());
     }
     Ok(count)
-}
-
-fn print_file(rt: &LibcRuntime, path: &str) -> Result<bool, AnyError> {
-    let bytes = match fs::read(rt, path) {
-        Ok(bytes) => bytes,
-        Err(error) => {
-            eprintln!(rt, "cphd: {path} could not be read")?;
-            return Err(error.into());
-        }
-    };
-    let name = Path::new(path).file_name().unwrap_or(path);
-    print_header(rt, name, &FixedFile::new(&bytes, 0))
 }

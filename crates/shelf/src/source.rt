@@ -13,6 +13,7 @@ pub const LIMIT: u64 = 1 << 40;
 
 // Bytes under a stamp. No call changes them.
 pub trait Source {
+    // What the source means: the bytes that it holds, and its stamp.
     ghost bytes: { Self → List ℕ };
 
     ghost stamp: { Self → ℕ };
@@ -31,6 +32,7 @@ pub trait Source {
 
 // A source whose bytes and stamp a restock replaces, up to a capacity that stays.
 pub trait Shelf: Source {
+    // The most bytes that a restock may give.
     ghost capacity: { Self → ℕ };
 
     // What a restock with these bytes under this stamp leaves of the shelf besides its meaning, by the answer.
