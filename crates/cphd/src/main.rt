@@ -22,12 +22,12 @@ usage:
 A block is printed as NAME PLACE SIZE, in bytes from the start of the file.
 A refusal is printed as: refused NUMBER PLACE: SENTENCE.";
 
-// How many files were read, how many of them were accepted, and how many could not be read.
+// How many files were asked for, how many of them could be read, and how many of these were accepted.
 #[derive(Drop)]
 struct Count {
-    files: u64,
+    asked: u64,
+    read: u64,
     accepted: u64,
-    unread: u64,
 }
 
 fn main(rt: LibcRuntime) -> Result<(), AnyError> {
@@ -42,57 +42,57 @@ fn run(rt: &LibcRuntime) -> Result<bool, AnyError> {
     let mut args = env::args(rt)?;
     let _program = args.next();
     let Some(command) = args.next() else {
-        return Err("a command is expected; `cphd help` lists them".into());
+        return misused(rt, "a command is expected; `cphd help` lists them");
     };
     match command.as_str() {
         "header" => {
             let count = print_headers(rt, args)?;
-            Ok(count.accepted == count.files && count.unread == 0)
+            Ok(count.accepted == count.asked)
         }
         "headers" => {
             let Count {
-                files,
+                asked,
+                read,
                 accepted,
-                unread,
             } = print_headers(rt, args)?;
-            let refused = files.saturating_sub(accepted);
-            println!(rt, "{files} files, {accepted} accepted, {refused} refused")?;
-            Ok(unread == 0)
+            let refused = read.saturating_sub(accepted);
+            println!(rt, "{read} files, {accepted} accepted, {refused} refused")?;
+            Ok(read == asked)
         }
         "demo" => run_demo(rt),
         "help" => {
             println!(rt, "{HELP}")?;
             Ok(true)
         }
-        other => {
-            eprintln!(rt, "cphd: unknown command `{other}`")?;
-            Err("one of header, headers, demo and help is expected".into())
-        }
+        _ => misused(rt, "one of header, headers, demo and help is expected"),
     }
+}
+
+// Says what was expected.
+fn misused(rt: &LibcRuntime, expected: &str) -> Result<bool, AnyError> {
+    eprintln!(rt, "cphd: {expected}")?;
+    Ok(false)
 }
 
 // Prints the header of each file; one that cannot be read is named on standard error.
 fn print_headers(rt: &LibcRuntime, paths: Args) -> Result<Count, AnyError> {
     let mut count = Count {
-        files: 0,
+        asked: 0,
+        read: 0,
         accepted: 0,
-        unread: 0,
     };
     for path in paths {
+        count.asked = count.asked.saturating_add(1);
         let Ok(bytes) = fs::read(rt, path.as_str()) else {
             eprintln!(rt, "cphd: {path} cannot be read")?;
-            count.unread = count.unread.saturating_add(1);
             continue;
         };
+        count.read = count.read.saturating_add(1);
         let name = Path::new(path.as_str())
             .file_name()
             .unwrap_or(path.as_str());
         let accepted = print_header(rt, name, &FixedFile::new(&bytes, 0))?;
-        count.files = count.files.saturating_add(1);
         count.accepted = count.accepted.saturating_add(u64::from(accepted));
-    }
-    if count.files == 0 && count.unread == 0 {
-        return Err("at least one file is expected".into());
     }
     Ok(count)
 }
