@@ -26,7 +26,8 @@ expect 0 '^2 files, 1 accepted, 1 refused$' headers "$data/digits_18.cphd" "$dat
 expect 1 'absent.cphd cannot be read' header "$data/absent.cphd" "$data/small.cphd"
 expect 1 '^  accepted$' header "$data/absent.cphd" "$data/small.cphd"
 expect 1 '^1 files, 1 accepted, 0 refused$' headers "$data/absent.cphd" "$data/small.cphd"
-expect 0 '^0 files, 0 accepted, 0 refused$' headers
+expect 1 'at least one file is expected' header
+expect 1 'at least one file is expected' headers
 expect 1 'a command is expected'
 expect 1 'one of header, headers, demo and help is expected' frobnicate
 expect 0 'cphd header FILE' help

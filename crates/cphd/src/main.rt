@@ -50,14 +50,14 @@ fn run(rt: &LibcRuntime) -> Result<bool, AnyError> {
             Ok(count.accepted == count.asked)
         }
         "headers" => {
-            let Count {
-                asked,
-                read,
-                accepted,
-            } = print_headers(rt, args)?;
-            let refused = read.saturating_sub(accepted);
-            println!(rt, "{read} files, {accepted} accepted, {refused} refused")?;
-            Ok(read == asked)
+            let count = print_headers(rt, args)?;
+            let refused = count.read.saturating_sub(count.accepted);
+            println!(
+                rt,
+                "{} files, {} accepted, {refused} refused",
+                count.read, count.accepted
+            )?;
+            Ok(count.read == count.asked)
         }
         "demo" => run_demo(rt),
         "help" => {
@@ -93,6 +93,9 @@ fn print_headers(rt: &LibcRuntime, paths: Args) -> Result<Count, AnyError> {
             .unwrap_or(path.as_str());
         let accepted = print_header(rt, name, &FixedFile::new(&bytes, 0))?;
         count.accepted = count.accepted.saturating_add(u64::from(accepted));
+    }
+    if count.asked == 0 {
+        return Err("at least one file is expected".into());
     }
     Ok(count)
 }
