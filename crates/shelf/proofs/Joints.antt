@@ -1,10 +1,9 @@
 -- Lists that are joined, and read across the joint.
 use mathlib.Core.Path.{_≡_, refl, sym, _∙_, ap, subst}
-use mathlib.Core.List.{List, [], _∷_, _++_, append-nil}
-use mathlib.Core.Logic.{_⊎_, inl, inr}
-use Prim.Native.Nat.{ℕ, _+_, _-_, _≤_, _<_, _^_, min, max}
+use mathlib.Core.List.{List, [], _++_, append-nil}
+use mathlib.Core.Logic.{inl, inr}
+use Prim.Native.Nat.{ℕ, _+_, _-_, _≤_, min, max}
 use native.Mathlib.Omega.{arith}
-use native.Mathlib.Nat.{add-zero, zero-add}
 use lib.ListN.{length, take, drop}
 use lib.Seq.{take-add}
 use borrow.Rule.Slice.PartMut.{postOf, putMid}
@@ -64,6 +63,8 @@ cross xs ys top p n k from next h ef ek en =
     let right : take n (drop p (take top (xs ++ ys))) ≡ take n (drop p xs) ++ take (n - k) (drop (p - length xs) ys) =
     cut-off (xs ++ ys) top p n h ∙ ap (take n) (drop-joined xs ys p) ∙ take-joined (drop p xs) (drop (p - length xs) ys) n
     ∙ ap (λ (m : ℕ). take n (drop p xs) ++ take m (drop (p - length xs) ys)) e3 in
+    let q : next ≡ p - length xs = omega arith in
+    let second : take n (drop p xs) ++ take (n - k) (drop next ys) ≡ take n (drop p xs) ++ take (n - k) (drop (p - length xs) ys) = ap (λ (m : ℕ). take n (drop p xs) ++ take (n - k) (drop m ys)) q in
     elim (cases-lt p (length xs)) [
       | inl lt ↦
           (let f : from ≡ p = omega arith in
@@ -72,17 +73,11 @@ cross xs ys top p n k from next h ef ek en =
             | inl small ↦ (let q : k ≡ n = omega arith in ap (λ (m : ℕ). take m (drop p xs)) q)
             | inr big ↦ take-all k (drop p xs) (omega (arith, l)) ∙ sym (take-all n (drop p xs) (omega (arith, l)))
           ] in
-          let b : take (n - k) (drop next ys) ≡ take (n - k) (drop (p - length xs) ys) =
-          elim (cases-lt n (length xs - p)) [
-            | inl small ↦ (let q : n - k ≡ 0 = omega arith in ap (λ (m : ℕ). take m (drop next ys)) q ∙ sym (ap (λ (m : ℕ). take m (drop (p - length xs) ys)) q))
-            | inr big ↦ (let q : next ≡ p - length xs = omega arith in ap (λ (m : ℕ). take (n - k) (drop m ys)) q)
-          ] in
-          ap (λ (z : List ℕ). z ++ take (n - k) (drop next ys)) a ∙ ap (λ (z : List ℕ). take n (drop p xs) ++ z) b ∙ sym right)
+          ap (λ (z : List ℕ). z ++ take (n - k) (drop next ys)) a ∙ second ∙ sym right)
       | inr ge ↦
           (let z : k ≡ 0 = omega arith in
-          let q : next ≡ p - length xs = omega arith in
           let a : take k (drop from xs) ≡ take n (drop p xs) = ap (λ (m : ℕ). take m (drop from xs)) z ∙ sym (ap (take n) (drop-all p xs ge) ∙ take-all n [] (omega arith)) in
-          ap (λ (x : List ℕ). x ++ take (n - k) (drop next ys)) a ∙ ap (λ (m : ℕ). take n (drop p xs) ++ take (n - k) (drop m ys)) q ∙ sym right)
+          ap (λ (z : List ℕ). z ++ take (n - k) (drop next ys)) a ∙ second ∙ sym right)
     ]
 
 pub joined-reads : (xs ys before buf1 buf2 : List ℕ) (top p k from next : ℕ) (r : Result Unit Refusal)
@@ -103,9 +98,6 @@ joined-reads xs ys before buf1 buf2 top p k from next r h ef ek en e1 a =
     let lp : length (take m (drop k both)) ≡ n - k = length-take m (drop k both) ∙ omega (arith, length-drop k both, ll) in
     by-result r ll lb1 b1 lp all a
   where
-    n : ℕ
-    n = length before
-
     both : List ℕ
     both = buf1 ++ postOf 0 (k - 0) before
 

@@ -5,12 +5,13 @@ use mathlib.Core.Logic.{inl, inr}
 use Prim.Native.Nat.{ℕ, _-_, _<_, _≤_, min}
 use native.Mathlib.Omega.{arith}
 use lib.ListN.{length, take, drop}
-use Rattle.std.proofs.shelf.Lists.{take-all, drop-all, take-at, length-take, length-append, length-drop}
+use Rattle.std.proofs.shelf.Lists.{take-all, drop-all, take-at, length-append, length-drop}
 use Rattle.std.proofs.shelf.Tests.{cases-lt}
 use Rattle.shelf.specs.declared.refusal.Refusal.{Refusal}
 use Rattle.shelf.specs.Meaning.{Unfit}
 use Rattle.shelf.specs.Meaning.Unfit.{not-above, too-long}
 
+-- a front that is cut at the length, and what is behind it
 pub take-min : {X : Type 0} (n : ℕ) (xs : List X) → take (min n (length xs)) xs ≡ take n xs
 take-min {X} n xs = elim (cases-lt n (length xs)) [
   | inl h ↦ (let e : min n (length xs) ≡ n = omega arith in ap (λ (k : ℕ). take k xs) e)
@@ -26,10 +27,6 @@ drop-min {X} n xs = elim (cases-lt n (length xs)) [
 -- `&xs[0..k]`, where k is the smaller of n and the length
 pub front-is : {X : Type 0} (n k : ℕ) (xs : List X) → k ≡ min n (length xs) → take (k - 0) xs ≡ take n xs
 front-is {X} n k xs e = let z : k - 0 ≡ min n (length xs) = omega arith in ap (λ (j : ℕ). take j xs) z ∙ take-min n xs
-
--- the length of a front
-pub front-length : {X : Type 0} (n : ℕ) (xs ys : List X) → ys ≡ take n xs → length ys ≤ n
-front-length {X} n xs ys e = omega (arith, ap length e, length-take n xs)
 
 -- the buffer after a write to its front
 pub stocked-length : (given buf : List ℕ) → length given ≤ length buf → length (given ++ drop (length given) buf) ≡ length buf

@@ -52,6 +52,7 @@ impl<'a> MemoryShelf<'a> {
         self.stamp = stamp;
     }
 
+    // The bytes that it holds.
     fn held(&self) -> &[u8]
         ensures value { λ r. ⌜ now r ≡ memoryBytes (now (self .entry)) ⌝ }
         ensures bound { λ r. ⌜ length (now r) ≤ limit ⌝ }
