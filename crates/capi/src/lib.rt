@@ -1,4 +1,6 @@
 // What C programs call: functions on numbers and byte slices, declared in include/cphd.h. A slice is passed as a pointer and a length.
+#![tactic(auto)]
+
 ghost use Rattle.std.specs.Prelude.{◌≡◌, length, Decides};
 ghost use Rattle.xml.specs.Grammar.{Content, IsDocument};
 ghost use Rattle.xml.specs.Walks.{Holds, children};

@@ -1,4 +1,6 @@
 // cphd: reads CPHD 1.1.0 products.
+#![tactic(auto)]
+
 use anyhow::anyhow;
 use report::{View, print_files, run_demo};
 use std::env;

@@ -1,4 +1,6 @@
 // Runs what `cphd demo` runs, so that the gate compares what it prints.
+#![tactic(auto)]
+
 use anyhow::anyhow;
 use report::run_demo;
 

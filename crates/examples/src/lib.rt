@@ -1,4 +1,6 @@
 // Worked examples that the contracts decide: what each answers is proved, and so is the law behind it.
+#![tactic(auto)]
+
 mod depths;
 mod headers;
 mod restocks;

@@ -1,4 +1,6 @@
 // The header of a CPHD 1.1.0 file: its lines, its keys, and where its blocks stand.
+#![tactic(auto)]
+
 mod header;
 mod keys;
 mod reader;

@@ -1,5 +1,7 @@
 // Prints what `cphd outline` prints of many files, and how many were accepted. It ends well also where some are refused, so
 // that the gate compares what it prints.
+#![tactic(auto)]
+
 use anyhow::anyhow;
 use report::{View, print_files};
 use std::env;

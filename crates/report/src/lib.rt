@@ -1,4 +1,6 @@
 // What the program prints. Everything that it says of a file comes from the library's calls.
+#![tactic(auto)]
+
 mod bytes;
 mod demo;
 mod files;

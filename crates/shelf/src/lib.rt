@@ -1,4 +1,6 @@
 // Where a product's bytes come from: sources under a stamp, shelves that can be restocked, and the refusals of every call.
+#![tactic(auto)]
+
 mod fixed;
 mod joined;
 mod memory;

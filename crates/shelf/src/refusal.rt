@@ -1,15 +1,15 @@
 // Why a call is refused, and where.
-ghost use Rattle.std.specs.Prelude.{◌≡◌, Some, Decides};
+ghost use Rattle.std.specs.Prelude.{◌≡◌, ◌==◌, Some, Decides};
 ghost use Rattle.shelf.specs.Refusals.{number};
 ghost use Rattle.shelf.specs.Sentences.{sentence, shown};
 ghost use Rattle.std.specs.Cmp.Rules.{comparing};
 ghost use Rattle.std.proofs.Common.{rules};
-ghost use Rattle.std.specs.Cmp as Keys;
+ghost use Rattle.std.specs.Ordering.{on};
 
 use std::fmt;
 
 // Each reason stands for a number, by which callers and documents name it.
-#[derive(Clone, Copy, Eq)]
+#[derive(Clone, Copy)]
 pub enum Reason {
     // Shelves and sources.
     StampNotAbove = 1,
@@ -104,13 +104,20 @@ fn same_number(a: Reason, b: Reason) -> bool
 
 // Reasons are equal exactly when their numbers are: no two share one.
 impl PartialEq for Reason {
-    ghost equals = { λ x y r. Decides r (x ≡ y) };
+    ghost eq = { on number ◌==◌ };
 
-    ghost laws = { Keys.partial_equiv_from_equiv (Prim.search (comparing, rules)) };
+    ghost laws = { Prim.search (comparing, rules) };
 
-    fn eq(&self, other: &Reason) -> bool {
+    fn eq(&self, other: &Reason) -> bool
+        ensures value { result ≡ on number ◌==◌ self.now other.now }
+        ensures same { Decides result (self.now ≡ other.now) }
+    {
         same_number(*self, *other)
     }
+}
+
+impl Eq for Reason {
+    ghost laws = { Prim.search (comparing, rules) };
 }
 
 impl fmt::Display for Refusal {

@@ -1,4 +1,6 @@
 // The XML block of a CPHD 1.1.0 file: whether it is a document, and a walk over its elements.
+#![tactic(auto)]
+
 mod document;
 mod element;
 mod lookahead;

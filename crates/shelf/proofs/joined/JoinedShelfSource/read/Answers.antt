@@ -8,8 +8,8 @@ returns g c =
     let first = g.A.Source.bytes c.args.self.now.first in
     let held = c.len.ensures.value in
     let joint = c.len-2.ensures.value in
-    let cut = c.cut-at-from.ensures in
+    let cut = c.cut_at-from.ensures in
     joined_reads first (g.B.Source.bytes c.args.self.now.second) c.args.buffer.now c.read.new.buffer c.read-2.new.buffer
-    limit c.args.place c.cut-at-from.result.near c.cut-at-from.result.from c.cut-at-from.result.next c.read-2.result
-    (omega (arith, held, c.in-ok-inside.ensures)) (omega (arith, joint, cut.from)) (omega (arith, joint, cut.near)) (omega (arith, joint, cut.next))
-    c.in-ok-read.ensures.filled c.read-2.ensures
+    limit c.args.place c.cut_at-from.result.near c.cut_at-from.result.from c.cut_at-from.result.next c.read-2.result
+    (omega (arith, held, c.in_ok-inside.ensures)) (omega (arith, joint, cut.from)) (omega (arith, joint, cut.near)) (omega (arith, joint, cut.next))
+    c.in_ok-read.ensures.filled c.read-2.ensures

@@ -8,7 +8,7 @@ returns c =
     let buf = c.args.self.now.buffer.now in
     let given = c.args.given.now in
     let held = c.hold.ensures in
-    let fit = c.in-ok-fit.ensures in
+    let fit = c.in_ok-fit.ensures in
     record {
       means = (
         record { above = fit.above; fits = omega arith },

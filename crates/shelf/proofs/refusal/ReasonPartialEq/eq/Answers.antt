@@ -4,4 +4,4 @@ use Rattle.shelf.proofs.Reasons.{one_reason}
 use Rattle.shelf.proofs.refusal.ReasonPartialEq.eq.Goals as goal
 
 pub returns : goal.returns
-returns c = (λ t. one_reason _ _ (c.same-number.ensures.0 t), λ e. c.same-number.ensures.1 (ap number e))
+returns c = (record { value = λ t. one_reason _ _ (c.same_number.ensures.0 t); same = λ e. c.same_number.ensures.1 (ap number e) })
