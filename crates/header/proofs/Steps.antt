@@ -1,6 +1,7 @@
 -- The table and the lines that it stands for; one more line of it.
-use Rattle.std.proofs.Common.{◌≡◌, ℕ, ◌+◌, ◌-◌, ◌<◌, ◌≤◌, Bool, true, false, ◌≢◌, List, [], ◌∷◌, ◌++◌, map, length, take, drop, set, Decides, sym, refl, ap, ◌∙◌, subst, arith, length-append, length-drop, get_or-set_other, get_or-set_same, below_more}
-use Rattle.std.specs.Cmp.Lexicographic.{Matches}
+use Rattle.std.proofs.Common.{◌≡◌, ℕ, ◌+◌, ◌-◌, ◌<◌, ◌≤◌, Bool, true, false, ◌≢◌, ◌==◌, List, [], ◌∷◌, ◌++◌, map, length, take, drop, set, sym, refl, ap, ◌∙◌, subst, arith, length-append, length-drop, get_or-set_other, get_or-set_same, below_more}
+use Rattle.std.specs.Cmp.Lexicographic.{pointwise}
+use Rattle.std.specs.List.{starts_with}
 use Rattle.std.proofs.lemmas.Slice.Eq.{starts_is, slice_eq-Decides}
 use Rattle.std.proofs.lemmas.Bool.{false≢true}
 use Rattle.std.proofs.lemmas.List.{take_rest, length-map, length-take-le, get_or-map, get_or-take, take_more_set, map_push, take_at, drop_at, drop-drop}
@@ -47,10 +48,10 @@ pub length_table : (bs : List ℕ) (n : ℕ) (spans : List Span) → n ≤ lengt
 length_table bs n spans h = length-map (take n spans) (line_of bs) ∙ length-take-le n spans h
 
 -- what `starts_with` at `&bs[p..]` says
-pub begins_from : (bs xs : List ℕ) (p : ℕ) → Matches (λ (a b : ℕ) (t : Bool). Decides t (a ≡ b)) xs (take (length xs) (take (length bs - p) (drop p bs))) true → Begins (drop p bs) xs
+pub begins_from : (bs xs : List ℕ) (p : ℕ) → true ≡ starts_with ◌==◌ (take (length bs - p) (drop p bs)) xs → Begins (drop p bs) xs
 begins_from bs xs p m = (_, sym (take_rest bs p) ∙ (starts_is Decides-eqb (take (length bs - p) (drop p bs)) xs true m).0 refl)
 
-pub begins_not : (bs xs : List ℕ) (p : ℕ) → Matches (λ (a b : ℕ) (t : Bool). Decides t (a ≡ b)) xs (take (length xs) (take (length bs - p) (drop p bs))) false → Begins (drop p bs) xs → ⊥
+pub begins_not : (bs xs : List ℕ) (p : ℕ) → false ≡ starts_with ◌==◌ (take (length bs - p) (drop p bs)) xs → Begins (drop p bs) xs → ⊥
 begins_not bs xs p m h = false≢true ((starts_is Decides-eqb (take (length bs - p) (drop p bs)) xs false m).1 h.0 (take_rest bs p ∙ h.1))
 
 pub inside_more : (bs : List ℕ) (n : ℕ) (spans : List Span) (s : Span) → n < length spans → ((i : ℕ) → i < n → Inside bs (span_at spans i)) → Inside bs s → (i : ℕ) → i < n + 1 → Inside bs (span_at (set spans n s) i)
@@ -74,7 +75,7 @@ pub part_at : (bs : List ℕ) (p q n : ℕ) → q ≡ p → take (q + n - q) (dr
 part_at bs p q n e = part_is bs q n ∙ ap (λ z. take n (drop z bs)) e
 
 abbrev SameBytes : List ℕ → List ℕ → Bool → Type 0
-SameBytes xs ys r = Matches (λ (a b : ℕ) (t : Bool). Decides t (a ≡ b)) xs ys r
+SameBytes xs ys r = r ≡ pointwise ◌==◌ xs ys
 
 pub same_when : (xs ys : List ℕ) → SameBytes xs ys true → xs ≡ ys
 same_when xs ys m = (slice_eq-Decides Decides-eqb xs ys true m).0 refl

@@ -19,53 +19,53 @@ Rest = Then MiscForm Last
 rootless : (text : List ℕ) (o : Option Element) → o ≡ None → Missing DocumentChain text 0 → MatchOption o (IsDocument text → ⊥) (λ e. RootIs text e.name.now e.content.now)
 rootless text o e m = cases_none o (IsDocument text → ⊥) (λ e. RootIs text e.name.now e.content.now) e (no_document text m)
 
-pub returns-in-err-head : goal.returns-in-err-head
-returns-in-err-head c =
+pub returns-in_err-head : goal.returns-in_err-head
+returns-in_err-head c =
     let text = c.args.text.now in
-    rootless text _ c.from-residual.ensures (missing_first DeclarationForm Rest text 0 c.in-err-head.ensures)
+    rootless text _ c.from_residual.ensures (missing_first DeclarationForm Rest text 0 c.in_err-head.ensures)
 
-pub returns-in-err-start : goal.returns-in-err-start
-returns-in-err-start c =
+pub returns-in_err-start : goal.returns-in_err-start
+returns-in_err-start c =
     let text = c.args.text.now in
-    let head = c.in-ok-head.head in
-    rootless text _ c.from-residual-in-err-start.ensures
-    (reads_then DeclarationForm Rest text 0 head None c.in-ok-head.ensures (missing_first MiscForm Last text head c.in-err-start.ensures))
+    let head = c.in_ok-head.head in
+    rootless text _ c.from_residual-in_err-start.ensures
+    (reads_then DeclarationForm Rest text 0 head None c.in_ok-head.ensures (missing_first MiscForm Last text head c.in_err-start.ensures))
 
-pub returns-in-err-parts : goal.returns-in-err-parts
-returns-in-err-parts c =
+pub returns-in_err-parts : goal.returns-in_err-parts
+returns-in_err-parts c =
     let text = c.args.text.now in
-    let head = c.in-ok-head.head in
-    let start = c.in-ok-start.start in
-    rootless text _ c.from-residual-in-err-parts.ensures
-    (reads_then DeclarationForm Rest text 0 head None c.in-ok-head.ensures
-    (reads_then MiscForm Last text head start None c.in-ok-start.ensures
-    (missing_first (ElementForm 16) MiscForm text start c.in-err-parts.ensures)))
+    let head = c.in_ok-head.head in
+    let start = c.in_ok-start.start in
+    rootless text _ c.from_residual-in_err-parts.ensures
+    (reads_then DeclarationForm Rest text 0 head None c.in_ok-head.ensures
+    (reads_then MiscForm Last text head start None c.in_ok-start.ensures
+    (missing_first (ElementForm 16) MiscForm text start c.in_err-parts.ensures)))
 
-pub returns-in-err-last : goal.returns-in-err-last
-returns-in-err-last c =
+pub returns-in_err-last : goal.returns-in_err-last
+returns-in_err-last c =
     let text = c.args.text.now in
-    let head = c.in-ok-head.head in
-    let start = c.in-ok-start.start in
-    let end = c.in-ok-parts.parts.end in
-    rootless text _ c.from-residual-in-err-last.ensures
-    (reads_then DeclarationForm Rest text 0 head None c.in-ok-head.ensures
-    (reads_then MiscForm Last text head start None c.in-ok-start.ensures
-    (reads_then (ElementForm 16) MiscForm text start end None (stands_ends text 16 start c.in-ok-parts.parts c.in-ok-parts.ensures) c.in-err-last.ensures)))
+    let head = c.in_ok-head.head in
+    let start = c.in_ok-start.start in
+    let end = c.in_ok-parts.parts.end in
+    rootless text _ c.from_residual-in_err-last.ensures
+    (reads_then DeclarationForm Rest text 0 head None c.in_ok-head.ensures
+    (reads_then MiscForm Last text head start None c.in_ok-start.ensures
+    (reads_then (ElementForm 16) MiscForm text start end None (stands_ends text 16 start c.in_ok-parts.parts c.in_ok-parts.ensures) c.in_err-last.ensures)))
 
-pub returns-then-not-is-end : goal.returns-then-not-is-end
-returns-then-not-is-end c =
+pub returns-then-not-is_end : goal.returns-then-not-is_end
+returns-then-not-is_end c =
     let text = c.args.text.now in
-    let head = c.in-ok-head.head in
-    let start = c.in-ok-start.start in
-    let end = c.in-ok-parts.parts.end in
-    let last = c.in-ok-last.last in
+    let head = c.in_ok-head.head in
+    let start = c.in_ok-start.start in
+    let end = c.in_ok-parts.parts.end in
+    let last = c.in_ok-last.last in
     not_all text last
-    (reads_then DeclarationForm Rest text 0 head (Some last) c.in-ok-head.ensures
-    (reads_then MiscForm Last text head start (Some last) c.in-ok-start.ensures
-    (reads_then (ElementForm 16) MiscForm text start end (Some last) (stands_ends text 16 start c.in-ok-parts.parts c.in-ok-parts.ensures) c.in-ok-last.ensures)))
-    c.if-not-is-end.ensures
+    (reads_then DeclarationForm Rest text 0 head (Some last) c.in_ok-head.ensures
+    (reads_then MiscForm Last text head start (Some last) c.in_ok-start.ensures
+    (reads_then (ElementForm 16) MiscForm text start end (Some last) (stands_ends text 16 start c.in_ok-parts.parts c.in_ok-parts.ensures) c.in_ok-last.ensures)))
+    c.if-not-is_end.ensures
 
 pub returns : goal.returns
 returns c =
     let text = c.args.text.now in
-    root_read text c.in-ok-head.head c.in-ok-start.start c.in-ok-last.last c.in-ok-parts.parts c.in-ok-head.ensures c.in-ok-start.ensures c.in-ok-parts.ensures c.in-ok-last.ensures c.if-not-is-end.ensures _ _ c.element-from.ensures.name c.element-from.ensures.content
+    root_read text c.in_ok-head.head c.in_ok-start.start c.in_ok-last.last c.in_ok-parts.parts c.in_ok-head.ensures c.in_ok-start.ensures c.in_ok-parts.ensures c.in_ok-last.ensures c.if-not-is_end.ensures _ _ c.element_from.ensures.name c.element_from.ensures.content

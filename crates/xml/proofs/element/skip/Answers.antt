@@ -18,48 +18,48 @@ stopped xs l e h = subst Stops e (⊎_elim (λ p. subst Stops (sym p) tt) (λ r.
 pub loop-i-preserved-in-Text : goal.loop-i-preserved-in-Text
 loop-i-preserved-in-Text c =
     let text = c.args.text.now in
-    let e = c.text-end-i.ensures in
+    let e = c.text_end-i.ensures in
     let l = e.after in (
       omega arith,
       e.within,
-      onward SkipForm text c.args.at c.loop-i.i c.text-end-i.result c.loop-i.invariant.2
-          (step (Span text_byte) SkipForm text c.loop-i.i c.text-end-i.result e (text_split Stop 0 (λ ys s. s) (drop c.loop-i.i text)) (text_join Stop 0 (λ ys s. s) (drop c.loop-i.i text))),
+      onward SkipForm text c.args.at c.loop-i.i c.text_end-i.result c.loop-i.invariant.2
+          (step (Span text_byte) SkipForm text c.loop-i.i c.text_end-i.result e (text_split Stop 0 (λ ys s. s) (drop c.loop-i.i text)) (text_join Stop 0 (λ ys s. s) (drop c.loop-i.i text))),
     )
 
-pub returns-in-err-i : goal.returns-in-err-i
-returns-in-err-i c =
+pub returns-in_err-i-in-Reference : goal.returns-in_err-i-in-Reference
+returns-in_err-i-in-Reference c =
     let text = c.args.text.now in
-    reads_none SkipForm text c.args.at _ c.from-residual.ensures
-    (λ ys f. let p = reference_split Stop 0 (λ ys s. s) (drop c.loop-i.i text) ys (sym c.in-Reference.ensures) ((c.loop-i.invariant.2 ys).0 f) in c.in-err-i.ensures.reads p.0 p.1)
+    reads_none SkipForm text c.args.at _ c.from_residual.ensures
+    (λ ys f. let p = reference_split Stop 0 (λ ys s. s) (drop c.loop-i.i text) ys (sym c.in-Reference.ensures) ((c.loop-i.invariant.2 ys).0 f) in c.in_err-i-in-Reference.ensures.reads p.0 p.1)
 
 pub loop-i-preserved-in-Reference : goal.loop-i-preserved-in-Reference
 loop-i-preserved-in-Reference c =
     let text = c.args.text.now in
     let i = c.loop-i.i in
-    let e = c.in-ok-i.ensures.reads in
+    let e = c.in_ok-i-in-Reference.ensures.reads in
     let l = e.after in (
       omega arith,
       e.within,
-      onward SkipForm text c.args.at i c.in-ok-i.i c.loop-i.invariant.2
-          (step EntityForm SkipForm text i c.in-ok-i.i e (λ ys. reference_split Stop 0 (λ ys s. s) (drop i text) ys (sym c.in-Reference.ensures)) (reference_join Stop 0 (λ ys s. s) (drop i text))),
+      onward SkipForm text c.args.at i c.in_ok-i-in-Reference.i c.loop-i.invariant.2
+          (step EntityForm SkipForm text i c.in_ok-i-in-Reference.i e (λ ys. reference_split Stop 0 (λ ys s. s) (drop i text) ys (sym c.in-Reference.ensures)) (reference_join Stop 0 (λ ys s. s) (drop i text))),
     )
 
-pub returns-in-err-i-2 : goal.returns-in-err-i-2
-returns-in-err-i-2 c =
+pub returns-in_err-i-in-Comment : goal.returns-in_err-i-in-Comment
+returns-in_err-i-in-Comment c =
     let text = c.args.text.now in
-    reads_none SkipForm text c.args.at _ c.from-residual-in-err-i-2.ensures
-    (λ ys f. let p = comment_split Stop 0 (λ ys s. s) (drop c.loop-i.i text) ys (sym c.in-Comment.ensures) ((c.loop-i.invariant.2 ys).0 f) in c.in-err-i-2.ensures.reads p.0 p.1)
+    reads_none SkipForm text c.args.at _ c.from_residual-in_err-i-in-Comment.ensures
+    (λ ys f. let p = comment_split Stop 0 (λ ys s. s) (drop c.loop-i.i text) ys (sym c.in-Comment.ensures) ((c.loop-i.invariant.2 ys).0 f) in c.in_err-i-in-Comment.ensures.reads p.0 p.1)
 
 pub loop-i-preserved : goal.loop-i-preserved
 loop-i-preserved c =
     let text = c.args.text.now in
     let i = c.loop-i.i in
-    let e = c.in-ok-i-2.ensures.reads in
+    let e = c.in_ok-i-in-Comment.ensures.reads in
     let l = e.after in (
       omega arith,
       e.within,
-      onward SkipForm text c.args.at i c.in-ok-i-2.i c.loop-i.invariant.2
-          (step CommentForm SkipForm text i c.in-ok-i-2.i e (λ ys. comment_split Stop 0 (λ ys s. s) (drop i text) ys (sym c.in-Comment.ensures)) (comment_join Stop 0 (λ ys s. s) (drop i text))),
+      onward SkipForm text c.args.at i c.in_ok-i-in-Comment.i c.loop-i.invariant.2
+          (step CommentForm SkipForm text i c.in_ok-i-in-Comment.i e (λ ys. comment_split Stop 0 (λ ys s. s) (drop i text) ys (sym c.in-Comment.ensures)) (comment_join Stop 0 (λ ys s. s) (drop i text))),
     )
 
 pub returns-in-EndTag : goal.returns-in-EndTag

@@ -7,4 +7,4 @@ pub returns-then-at-text : goal.returns-then-at-text
 returns-then-at-text c = sym (ap markup (drop_all c.args.at c.args.text.now c.if-at-text.true))
 
 pub returns : goal.returns
-returns c = c.behind-bracket.ensures ∙ sym (ap markup (drop_more c.args.text.now c.args.at 0 c.if-at-text.false))
+returns c = c.behind_bracket.ensures ∙ sym (ap markup (drop_more c.args.text.now c.args.at 0 c.if-at-text.false))

@@ -10,10 +10,10 @@ pub loop-b-preserved : goal.loop-b-preserved
 loop-b-preserved c = (
   λ e.
       let both = and_parts _ _ e in
-      All-more (λ b. text_byte b ≡ true) c.args.block.now c.loop-b.b-index 0 (omega arith) (c.loop-b.invariant.0 both.0) (sym c.is-text-all.ensures ∙ both.1),
+      All-more (λ b. text_byte b ≡ true) c.args.block.now c.loop-b.b-index 0 (omega arith) (c.loop-b.invariant.0 both.0) (sym c.is_text-all.ensures ∙ both.1),
   λ a.
       let less = all_less (λ b. text_byte b ≡ true) c.args.block.now c.loop-b.b-index 0 (omega arith) a in
-      and_from _ _ (c.loop-b.invariant.1 less.0) (c.is-text-all.ensures ∙ less.1),
+      and_from _ _ (c.loop-b.invariant.1 less.0) (c.is_text-all.ensures ∙ less.1),
 )
 
 pub returns : goal.returns

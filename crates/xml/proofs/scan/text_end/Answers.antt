@@ -7,7 +7,7 @@ pub loop-i-preserved : goal.loop-i-preserved
 loop-i-preserved c = (
   omega arith,
   omega arith,
-  λ ys s. c.loop-i.invariant.2 ys (span_block text_byte c.args.text.now c.loop-i.i _ (omega arith) (c.all-text.ensures.0 c.if-all-text.true) ys s),
+  λ ys s. c.loop-i.invariant.2 ys (span_block text_byte c.args.text.now c.loop-i.i _ (omega arith) (c.all_text.ensures.0 c.if-all_text.true) ys s),
 )
 
 pub returns : goal.returns

@@ -14,24 +14,24 @@ Sign = Then (Literal (61 ∷ [])) Last
 abbrev Rest : Form
 Rest = Then (Span white) Sign
 
-pub returns-in-err-end : goal.returns-in-err-end
-returns-in-err-end c = reads_none AttributeForm c.args.text.now c.args.at _ c.from-residual.ensures (missing_first (NameForm attribute_byte) Rest c.args.text.now c.args.at c.in-err-end.ensures)
+pub returns-in_err-end : goal.returns-in_err-end
+returns-in_err-end c = reads_none AttributeForm c.args.text.now c.args.at _ c.from_residual.ensures (missing_first (NameForm attribute_byte) Rest c.args.text.now c.args.at c.in_err-end.ensures)
 
-pub returns-in-err-sign : goal.returns-in-err-sign
-returns-in-err-sign c =
+pub returns-in_err-sign : goal.returns-in_err-sign
+returns-in_err-sign c =
     let text = c.args.text.now in
-    let end = c.in-ok-end.end in
-    reads_none AttributeForm text c.args.at _ c.from-residual-in-err-sign.ensures
-    (reads_then (NameForm attribute_byte) Rest text c.args.at end None c.in-ok-end.ensures
+    let end = c.in_ok-end.end in
+    reads_none AttributeForm text c.args.at _ c.from_residual-in_err-sign.ensures
+    (reads_then (NameForm attribute_byte) Rest text c.args.at end None c.in_ok-end.ensures
     (reads_then (Span white) Sign text end c.span.result None c.span.ensures
-    (missing_first (Literal (61 ∷ [])) Last text c.span.result c.in-err-sign.ensures)))
+    (missing_first (Literal (61 ∷ [])) Last text c.span.result c.in_err-sign.ensures)))
 
 pub returns : goal.returns
 returns c =
     let text = c.args.text.now in
-    let end = c.in-ok-end.end in
-    let sign = c.in-ok-sign.sign in
-    reads_then (NameForm attribute_byte) Rest text c.args.at end _ c.in-ok-end.ensures
+    let end = c.in_ok-end.end in
+    let sign = c.in_ok-sign.sign in
+    reads_then (NameForm attribute_byte) Rest text c.args.at end _ c.in_ok-end.ensures
     (reads_then (Span white) Sign text end c.span.result _ c.span.ensures
-    (reads_then (Literal (61 ∷ [])) Last text c.span.result sign _ c.in-ok-sign.ensures
-    (reads_then (Span white) ValueForm text sign c.span-2.result _ c.span-2.ensures c.attribute-value.ensures)))
+    (reads_then (Literal (61 ∷ [])) Last text c.span.result sign _ c.in_ok-sign.ensures
+    (reads_then (Span white) ValueForm text sign c.span-2.result _ c.span-2.ensures c.attribute_value.ensures)))

@@ -10,6 +10,6 @@ returns c =
     let text = c.args.text.now in
     let name = c.args.name.now in
     reads_as (EndChain name) (EndForm name) text c.args.at _ (end_to name _) (end_fro name _)
-    (reads_then (Literal (60 ∷ 47 ∷ [])) (Then (Literal name) (Then (Span white) (Literal (62 ∷ [])))) text c.args.at c.in-ok-start.start _ c.in-ok-start.ensures
-    (reads_then (Literal name) (Then (Span white) (Literal (62 ∷ []))) text c.in-ok-start.start c.in-ok-end.end _ c.in-ok-end.ensures
-    (reads_then (Span white) (Literal (62 ∷ [])) text c.in-ok-end.end c.span.result _ c.span.ensures c.byte.ensures)))
+    (reads_then (Literal (60 ∷ 47 ∷ [])) (Then (Literal name) (Then (Span white) (Literal (62 ∷ [])))) text c.args.at c.in_ok-start.start _ c.in_ok-start.ensures
+    (reads_then (Literal name) (Then (Span white) (Literal (62 ∷ []))) text c.in_ok-start.start c.in_ok-end.end _ c.in_ok-end.ensures
+    (reads_then (Span white) (Literal (62 ∷ [])) text c.in_ok-end.end c.span.result _ c.span.ensures c.byte.ensures)))

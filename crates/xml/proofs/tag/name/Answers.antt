@@ -5,8 +5,8 @@ use Rattle.xml.proofs.Steps.{begins_within}
 use Rattle.xml.proofs.Forms.{name_none, name_ends}
 use Rattle.xml.proofs.tag.name.Goals as goal
 
-pub overflow-add-at : goal.overflow-add-at
-overflow-add-at c = let h = begins_within name_start_byte c.args.text.now c.args.at (sym c.found.ensures ∙ c.if-not-found.false) in omega arith
+pub overflow_add-at : goal.overflow_add-at
+overflow_add-at c = let h = begins_within name_start_byte c.args.text.now c.args.at (sym c.found.ensures ∙ c.if-not-found.false) in omega arith
 
 pub span-requires : goal.span-requires
 span-requires c = let h = begins_within name_start_byte c.args.text.now c.args.at (sym c.found.ensures ∙ c.if-not-found.false) in omega arith

@@ -10,5 +10,5 @@ returns c =
     let q = c.args.quote in
     let text = c.args.text.now in
     reads_as (QuotedChain q) (QuotedForm q) text c.args.at _ (quoted_to q _) (quoted_fro q _)
-    (reads_then (Literal (q ∷ [])) (Then (Span (value_byte q)) (Literal (q ∷ []))) text c.args.at c.in-ok-start.start _ c.in-ok-start.ensures
-    (reads_then (Span (value_byte q)) (Literal (q ∷ [])) text c.in-ok-start.start c.span.result _ c.span.ensures c.byte-2.ensures))
+    (reads_then (Literal (q ∷ [])) (Then (Span (value_byte q)) (Literal (q ∷ []))) text c.args.at c.in_ok-start.start _ c.in_ok-start.ensures
+    (reads_then (Span (value_byte q)) (Literal (q ∷ [])) text c.in_ok-start.start c.span.result _ c.span.ensures c.byte-2.ensures))

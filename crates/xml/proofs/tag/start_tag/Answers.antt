@@ -7,33 +7,33 @@ use Rattle.xml.proofs.Forms.{reads_then, missing_first, cases_none}
 use Rattle.xml.proofs.Comments.{literal_length}
 use Rattle.xml.proofs.tag.start_tag.Goals as goal
 
-pub returns-in-err-start : goal.returns-in-err-start
-returns-in-err-start c = cases_none _ (Missing StartForm c.args.text.now c.args.at) (StartsAt c.args.text.now c.args.at) c.from-residual.ensures (missing_first (Literal (60 ∷ [])) (Then (NameForm name_byte) TailForm) c.args.text.now c.args.at c.in-err-start.ensures)
+pub returns-in_err-start : goal.returns-in_err-start
+returns-in_err-start c = cases_none _ (Missing StartForm c.args.text.now c.args.at) (StartsAt c.args.text.now c.args.at) c.from_residual.ensures (missing_first (Literal (60 ∷ [])) (Then (NameForm name_byte) TailForm) c.args.text.now c.args.at c.in_err-start.ensures)
 
-pub returns-in-err-name-end : goal.returns-in-err-name-end
-returns-in-err-name-end c =
+pub returns-in_err-name_end : goal.returns-in_err-name_end
+returns-in_err-name_end c =
     let text = c.args.text.now in
-    let start = c.in-ok-start.start in
-    cases_none _ (Missing StartForm c.args.text.now c.args.at) (StartsAt c.args.text.now c.args.at) c.from-residual-in-err-name-end.ensures
-    (reads_then (Literal (60 ∷ [])) (Then (NameForm name_byte) TailForm) text c.args.at start None c.in-ok-start.ensures
-    (missing_first (NameForm name_byte) TailForm text start c.in-err-name-end.ensures))
+    let start = c.in_ok-start.start in
+    cases_none _ (Missing StartForm c.args.text.now c.args.at) (StartsAt c.args.text.now c.args.at) c.from_residual-in_err-name_end.ensures
+    (reads_then (Literal (60 ∷ [])) (Then (NameForm name_byte) TailForm) text c.args.at start None c.in_ok-start.ensures
+    (missing_first (NameForm name_byte) TailForm text start c.in_err-name_end.ensures))
 
-pub returns-in-err-end : goal.returns-in-err-end
-returns-in-err-end c =
+pub returns-in_err-end : goal.returns-in_err-end
+returns-in_err-end c =
     let text = c.args.text.now in
-    let start = c.in-ok-start.start in
-    cases_none _ (Missing StartForm c.args.text.now c.args.at) (StartsAt c.args.text.now c.args.at) c.from-residual-in-err-end.ensures
-    (reads_then (Literal (60 ∷ [])) (Then (NameForm name_byte) TailForm) text c.args.at start None c.in-ok-start.ensures
-    (reads_then (NameForm name_byte) TailForm text start c.in-ok-name-end.name_end None c.in-ok-name-end.ensures c.in-err-end.ensures))
+    let start = c.in_ok-start.start in
+    cases_none _ (Missing StartForm c.args.text.now c.args.at) (StartsAt c.args.text.now c.args.at) c.from_residual-in_err-end.ensures
+    (reads_then (Literal (60 ∷ [])) (Then (NameForm name_byte) TailForm) text c.args.at start None c.in_ok-start.ensures
+    (reads_then (NameForm name_byte) TailForm text start c.in_ok-name_end.name_end None c.in_ok-name_end.ensures c.in_err-end.ensures))
 
 pub returns : goal.returns
 returns c =
     let text = c.args.text.now in
-    let e = literal_length (60 ∷ []) text c.args.at c.in-ok-start.start c.in-ok-start.ensures in
+    let e = literal_length (60 ∷ []) text c.args.at c.in_ok-start.start c.in_ok-start.ensures in
     let B : ℕ → Type 0 = Ends (Literal (60 ∷ [])) text c.args.at in
-    let N : ℕ → Type 0 = λ n. Ends (NameForm name_byte) text n c.in-ok-name-end.name_end in
+    let N : ℕ → Type 0 = λ n. Ends (NameForm name_byte) text n c.in_ok-name_end.name_end in
     record {
-      bracket = subst B e c.in-ok-start.ensures;
-      name = subst N e c.in-ok-name-end.ensures;
-      tail = c.in-ok-end.ensures;
+      bracket = subst B e c.in_ok-start.ensures;
+      name = subst N e c.in_ok-name_end.ensures;
+      tail = c.in_ok-end.ensures;
     }

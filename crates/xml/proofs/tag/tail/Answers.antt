@@ -12,22 +12,22 @@ loop-at-preserved c =
     let text = c.args.text.now in
     let i = c.loop-at.i in
     let next = c.span-next.result in
-    let j = c.in-ok-i.i in
-    let a = c.in-ok-i.ensures in
+    let j = c.in_ok-i.i in
+    let a = c.in_ok-i.ensures in
     let l₁ = a.after in
     let l₂ = a.within in
     let l₃ = c.span-next.ensures.after in
-    let more : i < next = c.if-not-is-apart.ensures in
+    let more : i < next = c.if-not-is_apart.ensures in
     let step = tail_step text i next j more c.span-next.ensures (sym c.found.ensures ∙ c.if-found.false) a in
     (omega arith, omega arith, λ ys. (λ f. (step ys).0 ((c.loop-at.invariant.2 ys).0 f), λ f. (c.loop-at.invariant.2 ys).1 ((step ys).1 f)))
 
 pub loop-at-smaller : goal.loop-at-smaller
 loop-at-smaller c =
-    let a = c.in-ok-i.ensures in
+    let a = c.in_ok-i.ensures in
     let l₁ = a.after in
     let l₂ = a.within in
     let l₃ = c.span-next.ensures.after in
-    let l₄ = c.if-not-is-apart.ensures in
+    let l₄ = c.if-not-is_apart.ensures in
     omega arith
 
 pub returns-then-found : goal.returns-then-found
@@ -42,17 +42,17 @@ returns-then-found c =
       only = λ ys f. tail_only _ _ ys s.is t ((c.loop-at.invariant.2 ys).0 f);
     }
 
-pub returns-then-not-is-apart : goal.returns-then-not-is-apart
-returns-then-not-is-apart c ys f =
+pub returns-then-not-is_apart : goal.returns-then-not-is_apart
+returns-then-not-is_apart c ys f =
     let text = c.args.text.now in
     let s = c.span-next.ensures.is in
     let first = tail_more _ _ ys s (sym c.found.ensures ∙ c.if-found.false) ((c.loop-at.invariant.2 ys).0 f) in
     let l = c.span-next.ensures.after in
-    let k = c.if-not-is-apart.ensures in
+    let k = c.if-not-is_apart.ensures in
     let same : c.loop-at.i ≡ c.span-next.result = omega arith in
     both_ways (begins white (drop c.loop-at.i text)) (ap (λ n. begins white (drop n text)) same ∙ s.stops) first.apart
 
-pub returns-in-err-i : goal.returns-in-err-i
-returns-in-err-i c =
-    reads_none TailForm c.args.text.now c.args.at _ c.from-residual.ensures
-    (λ ys f. let first = tail_more _ _ ys c.span-next.ensures.is (sym c.found.ensures ∙ c.if-found.false) ((c.loop-at.invariant.2 ys).0 f) in c.in-err-i.ensures first.rest first.form)
+pub returns-in_err-i : goal.returns-in_err-i
+returns-in_err-i c =
+    reads_none TailForm c.args.text.now c.args.at _ c.from_residual.ensures
+    (λ ys f. let first = tail_more _ _ ys c.span-next.ensures.is (sym c.found.ensures ∙ c.if-found.false) ((c.loop-at.invariant.2 ys).0 f) in c.in_err-i.ensures first.rest first.form)

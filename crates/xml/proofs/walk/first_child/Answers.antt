@@ -12,31 +12,31 @@ Shorter bytes k = length k.element.content.now + length k.rest.now < length byte
 abbrev Only : List ℕ → Child → Type 0
 Only bytes k = OnlyFirst bytes k.element.name.now k.element.content.now k.rest.now
 
-pub returns-in-err-start : goal.returns-in-err-start
-returns-in-err-start c =
+pub returns-in_err-start : goal.returns-in_err-start
+returns-in_err-start c =
     let bytes = c.args.content.now in
-    let a = cases_none c.from-residual.result (NoChild bytes) (Only bytes) c.from-residual.ensures (no_skip bytes c.in-err-start.ensures) in
-    record { answer = a; walk = walk_law bytes c.from-residual.result a; forward = cases_none c.from-residual.result (Unit {0}) (Shorter bytes) c.from-residual.ensures tt }
+    let a = cases_none c.from_residual.result (NoChild bytes) (Only bytes) c.from_residual.ensures (no_skip bytes c.in_err-start.ensures) in
+    record { answer = a; walk = walk_law bytes c.from_residual.result a; forward = cases_none c.from_residual.result (Unit {0}) (Shorter bytes) c.from_residual.ensures tt }
 
-pub returns-in-err-parts : goal.returns-in-err-parts
-returns-in-err-parts c =
+pub returns-in_err-parts : goal.returns-in_err-parts
+returns-in_err-parts c =
     let bytes = c.args.content.now in
-    let a = cases_none c.from-residual-in-err-parts.result (NoChild bytes) (Only bytes) c.from-residual-in-err-parts.ensures (no_element bytes c.in-ok-start.start c.in-ok-start.ensures c.in-err-parts.ensures) in
-    record { answer = a; walk = walk_law bytes c.from-residual-in-err-parts.result a; forward = cases_none c.from-residual-in-err-parts.result (Unit {0}) (Shorter bytes) c.from-residual-in-err-parts.ensures tt }
+    let a = cases_none c.from_residual-in_err-parts.result (NoChild bytes) (Only bytes) c.from_residual-in_err-parts.ensures (no_element bytes c.in_ok-start.start c.in_ok-start.ensures c.in_err-parts.ensures) in
+    record { answer = a; walk = walk_law bytes c.from_residual-in_err-parts.result a; forward = cases_none c.from_residual-in_err-parts.result (Unit {0}) (Shorter bytes) c.from_residual-in_err-parts.ensures tt }
 
 pub returns : goal.returns
 returns c =
     let bytes = c.args.content.now in
-    let end = c.in-ok-parts.parts.end in
-    let s = c.in-ok-parts.ensures in
+    let end = c.in_ok-parts.parts.end in
+    let s = c.in_ok-parts.ensures in
     let h₁ = s.name_start in
     let h₂ = s.name_end in
     let h₃ = s.inner_start in
     let h₄ = s.inner_end in
     let h₅ = s.within in
-    let inner = c.in-ok-parts.parts.inner in
-    let close = c.in-ok-parts.parts.close in
-    let n = ap length c.element-from.ensures.content ∙ length-take (close - inner) (drop inner bytes) in
+    let inner = c.in_ok-parts.parts.inner in
+    let close = c.in_ok-parts.parts.close in
+    let n = ap length c.element_from.ensures.content ∙ length-take (close - inner) (drop inner bytes) in
     let r = c.behind.ensures ∙ take_all (length bytes - end) (drop end bytes) (omega (arith, length-drop end bytes)) in
-    let a = element_first bytes c.in-ok-start.start c.in-ok-parts.parts c.in-ok-start.ensures s _ _ _ c.element-from.ensures.name c.element-from.ensures.content r in
+    let a = element_first bytes c.in_ok-start.start c.in_ok-parts.parts c.in_ok-start.ensures s _ _ _ c.element_from.ensures.name c.element_from.ensures.content r in
     record { answer = a; walk = λ k h. first_part bytes _ _ _ k h a.is; forward = omega (arith, n, length-drop end bytes, ap length r) }

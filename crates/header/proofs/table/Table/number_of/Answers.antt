@@ -6,8 +6,8 @@ use Rattle.header.specs.Keys.{name}
 use Rattle.header.proofs.Codes.{number_from, number_none}
 use Rattle.header.proofs.table.Table.number_of.Goals as goal
 
-pub returns-in-default : goal.returns-in-default
-returns-in-default c = number_none _ c.args.key 0 (subst (Absent (lines_of c.args.head.now c.args.self.now)) c.name.ensures c.in-default.ensures)
+pub returns-in_default : goal.returns-in_default
+returns-in_default c = number_none _ c.args.key 0 (subst (Absent (lines_of c.args.head.now c.args.self.now)) c.name.ensures c.in_default.ensures)
 
 pub value-requires : goal.value-requires
 value-requires c = record { table = c.requires.table; within = omega (arith, c.in-Some.ensures.within, count_is _ _ c.requires.table) }

@@ -5,10 +5,10 @@ use Rattle.header.proofs.Codes.{keys, code_of, code_within, numbers_more}
 use Rattle.header.specs.declared.keys.Key.TheVariants.{XmlSize}
 use Rattle.header.proofs.table.Table.numbers.Goals as goal
 
-pub returns-in-err-numbers : goal.returns-in-err-numbers
-returns-in-err-numbers c =
-    let p = err_from_is_err_and c.from-residual.result c.from-residual.ensures.1 in
-    let wrong = c.in-err-numbers.ensures in
+pub returns-in_err-numbers : goal.returns-in_err-numbers
+returns-in_err-numbers c =
+    let p = err_from_is_err_and c.from_residual.result c.from_residual.ensures.1 in
+    let wrong = c.in_err-numbers.ensures in
     rw (p.1, p.2) (record {
       k = get_or keys c.loop-i.i XmlSize;
       says = wrong.0;
@@ -25,7 +25,7 @@ loop-i-init c = (refl, λ k h. absurd (omega (arith, h, code_within k)))
 pub loop-i-preserved : goal.loop-i-preserved
 loop-i-preserved c = (
   length-set _ _ _ ∙ c.loop-i.invariant.0,
-  numbers_more (lines_of c.args.head.now c.args.self.now) c.loop-i.i c.loop-i.numbers _ (omega (arith, c.loop-i.invariant.0)) c.loop-i.invariant.1 c.in-ok-numbers.ensures,
+  numbers_more (lines_of c.args.head.now c.args.self.now) c.loop-i.i c.loop-i.numbers _ (omega (arith, c.loop-i.invariant.0)) c.loop-i.invariant.1 c.in_ok-numbers.ensures,
 )
 
 pub returns : goal.returns

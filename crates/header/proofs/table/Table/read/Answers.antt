@@ -12,8 +12,8 @@ use Rattle.header.proofs.table.Table.read.Goals.{In-Some}
 found : (c : In-Some) → LineIs (drop c.lines.end c.args.head.now) c.in-Some.line.key.now c.in-Some.line.value.now
 found c = subst (λ z. LineIs z c.in-Some.line.key.now c.in-Some.line.value.now) (take_rest c.args.head.now c.lines.end) c.in-Some.ensures.is
 
-pub returns-then-is-full : goal.returns-then-is-full
-returns-then-is-full c =
+pub returns-then-is_full : goal.returns-then-is_full
+returns-then-is_full c =
     let inv = c.lines.invariant in
     let long = length_table c.args.head.now c.lines.count c.lines.spans (omega (arith, inv.3)) in
     malformed c.lines.end c.malformed.ensures (record {
@@ -21,31 +21,31 @@ returns-then-is-full c =
       begins = inv.0;
       lines = inv.4;
       few = omega (arith, long);
-      no_end = begins_not c.args.head.now terminator c.lines.end c.lines-test.ensures.matches;
-      no_line = λ h. absurd (omega (arith, h, long, c.if-is-full.ensures.0 refl));
+      no_end = begins_not c.args.head.now terminator c.lines.end c.lines-test.ensures.value;
+      no_line = λ h. absurd (omega (arith, h, long, c.if-is_full.ensures.0 refl));
     })
 
-pub returns-in-default : goal.returns-in-default
-returns-in-default c =
+pub returns-in_default : goal.returns-in_default
+returns-in_default c =
     let inv = c.lines.invariant in
     let long = length_table c.args.head.now c.lines.count c.lines.spans (omega (arith, inv.3)) in
-    malformed c.lines.end c.malformed-in-default.ensures (record {
+    malformed c.lines.end c.malformed-in_default.ensures (record {
       before = map (line_of c.args.head.now) (take c.lines.count c.lines.spans);
       begins = inv.0;
       lines = inv.4;
       few = omega (arith, long);
-      no_end = begins_not c.args.head.now terminator c.lines.end c.lines-test.ensures.matches;
-      no_line = λ h. subst NoLine (take_rest c.args.head.now c.lines.end) c.in-default.ensures;
+      no_end = begins_not c.args.head.now terminator c.lines.end c.lines-test.ensures.value;
+      no_line = λ h. subst NoLine (take_rest c.args.head.now c.lines.end) c.in_default.ensures;
     })
 
-pub overflow-add-end-in-lines-2 : goal.overflow-add-end-in-lines-2
-overflow-add-end-in-lines-2 c = omega (arith, line_fits _ _ _ _ c.lines.invariant.1 (found (goal.at.overflow-add-end-in-lines-2 c).In-Some), c.requires)
+pub overflow_add-end-in-lines-2 : goal.overflow_add-end-in-lines-2
+overflow_add-end-in-lines-2 c = omega (arith, line_fits _ _ _ _ c.lines.invariant.1 (found (goal.at.overflow_add-end-in-lines-2 c).In-Some), c.requires)
 
-pub overflow-add-end-in-lines-3 : goal.overflow-add-end-in-lines-3
-overflow-add-end-in-lines-3 c = omega (arith, line_fits _ _ _ _ c.lines.invariant.1 (found (goal.at.overflow-add-end-in-lines-3 c).In-Some), c.requires)
+pub overflow_add-end-in-lines-3 : goal.overflow_add-end-in-lines-3
+overflow_add-end-in-lines-3 c = omega (arith, line_fits _ _ _ _ c.lines.invariant.1 (found (goal.at.overflow_add-end-in-lines-3 c).In-Some), c.requires)
 
-pub overflow-add-end-in-lines : goal.overflow-add-end-in-lines
-overflow-add-end-in-lines c = omega (arith, line_fits _ _ _ _ c.lines.invariant.1 (found (goal.at.overflow-add-end-in-lines c).In-Some), c.requires)
+pub overflow_add-end-in-lines : goal.overflow_add-end-in-lines
+overflow_add-end-in-lines c = omega (arith, line_fits _ _ _ _ c.lines.invariant.1 (found (goal.at.overflow_add-end-in-lines c).In-Some), c.requires)
 
 pub lines-smaller : goal.lines-smaller
 lines-smaller c = omega (arith, line_fits _ _ _ _ c.lines.invariant.1 (found (goal.at.lines-smaller c).In-Some))
@@ -55,7 +55,7 @@ lines-preserved c =
     let inv = c.lines.invariant in
     let here = found (goal.at.lines-preserved c).In-Some in
     let fits = line_fits _ _ _ _ inv.1 here in
-    let room : c.lines.count < most_lines = ⊎_elim (λ lt. lt) (λ ge. absurd (false≢true (c.if-is-full.ensures.1 ge))) (cases_lt c.lines.count most_lines) in (
+    let room : c.lines.count < most_lines = ⊎_elim (λ lt. lt) (λ ge. absurd (false≢true (c.if-is_full.ensures.1 ge))) (cases_lt c.lines.count most_lines) in (
       inv.0,
       fits,
       omega arith,
@@ -76,6 +76,6 @@ returns c =
         begins = inv.0;
         lines = inv.4;
         few = omega (arith, long);
-        ends = begins_from c.args.head.now terminator c.lines.end c.lines-test.ensures.matches;
+        ends = begins_from c.args.head.now terminator c.lines.end c.lines-test.ensures.value;
       };
     }
