@@ -1,5 +1,5 @@
 -- What the stages of a header add up to.
-use Rattle.std.proofs.Common.{ℕ, ◌+◌, ◌-◌, ◌^◌, ◌<◌, ◌≤◌, List, length, get_or, drop, Some, None, Option, sym, refl, subst, arith, length-drop}
+use Rattle.std.proofs.Common.{ℕ, ◌+◌, ◌^◌, ◌<◌, ◌≤◌, List, length, get_or, drop, Some, None, Option, sym, refl, subst, arith, length-drop}
 use Rattle.std.proofs.lemmas.List.Prefix.{front_fits}
 use Rattle.header.specs.declared.header.Extent.{Extent}
 use Rattle.header.specs.declared.header.Header.{Header}

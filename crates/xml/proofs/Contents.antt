@@ -1,5 +1,5 @@
 -- Contents, piece by piece.
-use Rattle.std.proofs.Common.{◌≡◌, ℕ, Bool, true, false, ◌⊎◌, ◌↔◌, List, [], ◌∷◌, ◌++◌, drop, sym, refl, ap, ◌∙◌, subst, ⊎_elim, arith}
+use Rattle.std.proofs.Common.{◌≡◌, ℕ, Bool, true, false, ◌↔◌, List, [], ◌∷◌, ◌++◌, drop, sym, refl, ap, ◌∙◌, subst, ⊎_elim, arith}
 use Rattle.xml.specs.declared.lookahead.Lookahead.{Lookahead}
 use Rattle.xml.specs.declared.lookahead.Lookahead.TheVariants.{Text, Reference, Comment, EndTag, End, Other}
 use Rattle.xml.specs.Bytes.{AllOf, text_byte}

@@ -1,5 +1,5 @@
 -- References.
-use Rattle.std.proofs.Common.{◌≡◌, ℕ, ◌+◌, ◌≤◌, ◌⊎◌, List, [], ◌∷◌, ◌++◌, drop, Option, sym, refl, ap, ◌∙◌, subst, inl, inr, ⊎_elim, arith}
+use Rattle.std.proofs.Common.{◌≡◌, ℕ, ◌≤◌, List, [], ◌∷◌, ◌++◌, drop, Option, sym, refl, ap, ◌∙◌, subst, inl, inr, ⊎_elim, arith}
 use Rattle.xml.specs.Bytes.{AllOf, name_byte}
 use Rattle.xml.specs.Grammar.{Entity, lt, gt, amp, quot, apos, entity_name, entity_text}
 use Rattle.xml.specs.Reads.{Literal, Span, Ends, Missing, Reads}

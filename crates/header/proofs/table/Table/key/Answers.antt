@@ -1,4 +1,4 @@
-use Rattle.std.proofs.Common.{◌-◌, ◌≤◌, length, sym, ap, ◌∙◌, arith}
+use Rattle.std.proofs.Common.{◌≤◌, length, sym, ap, ◌∙◌, arith}
 use Rattle.header.specs.Tables.{span_at}
 use Rattle.header.proofs.Steps.{line_is, part_is}
 use Rattle.header.proofs.table.Table.key.Goals as goal

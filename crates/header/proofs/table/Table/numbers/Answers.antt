@@ -1,4 +1,4 @@
-use Rattle.std.proofs.Common.{◌-◌, get_or, refl, ◌∙◌, arith, length-set}
+use Rattle.std.proofs.Common.{get_or, refl, ◌∙◌, arith, length-set}
 use Rattle.std.proofs.lemmas.Result.{err_from_is_err_and}
 use Rattle.header.specs.Tables.{lines_of}
 use Rattle.header.proofs.Codes.{keys, code_of, code_within, numbers_more}
