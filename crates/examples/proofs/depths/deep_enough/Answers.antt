@@ -4,4 +4,4 @@ use Rattle.examples.proofs.Nested.{depth_limit}
 use Rattle.examples.proofs.depths.deep_enough.Goals as goal
 
 pub returns : goal.returns
-returns c = record { answer = c.well-formed-2.ensures.answer.1 (subst IsDocument (sym c.sixteen.ensures) ((depth_limit 15).0 (omega arith))); always = depth_limit }
+returns c = record { answer = c.well_formed-2.ensures.answer.1 (subst IsDocument (sym c.sixteen.ensures) ((depth_limit 15).0 (omega arith))); always = depth_limit }
