@@ -2,10 +2,12 @@
 demo: target/bin/cphd
 	target/bin/cphd demo
 
-target/bin/cphd: $(shell find crates -type f -not -path '*/must-fail/*')
-	rt check cphd
+target/bin/cphd: $(shell find crates -type f -not -path '*/must-fail/*' -not -path '*/out/*')
+	cd crates/cphd && rt run -- help >/dev/null
+	mkdir -p target/bin
+	cp crates/cphd/out/cphd $@
 
-# The gate: the program's statuses; then everything is proved from nothing, each planted bug is refused, the programs run.
+# The gate: everything is proved from nothing, each planted bug is refused, the programs run; then the program's statuses.
 test:
 	bash .ci/run
 
@@ -24,8 +26,10 @@ bench: target/bin/bench
 host-test: target/bin/xml_expat
 	target/bin/xml_expat
 
-$(LIBRARY): $(shell find crates/capi crates/xml crates/shelf -type f -not -path '*/must-fail/*')
-	rt staticlib capi
+$(LIBRARY): $(shell find crates/capi crates/xml crates/shelf -type f -not -path '*/must-fail/*' -not -path '*/out/*')
+	cd crates/capi && rt lib
+	mkdir -p target/staticlib
+	cp crates/capi/out/libcapi.a $@
 
 target/bin/bench: bench/bench.c include/cphd.h $(LIBRARY) | have-expat have-libxml2
 	mkdir -p target/bin

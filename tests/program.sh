@@ -1,5 +1,5 @@
 #!/usr/bin/env bash
-# The program's statuses and messages, which a comparison of its output does not see. `rt check cphd` builds target/bin/cphd.
+# The program's statuses and messages, which a comparison of its output does not see. `make target/bin/cphd` builds it.
 set -u
 cd "$(dirname "$0")/.."
 program=target/bin/cphd

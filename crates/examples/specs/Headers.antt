@@ -1,6 +1,6 @@
 -- Cases of the header's rules, whatever follows in the file.
 use Rattle.std.specs.Prelude.{◌≡◌, ℕ, ◌≤◌, List, ◌∷◌, ◌++◌, length, codes}
-use Rattle.std.specs.List.{AllByRecursion as All}
+use Rattle.std.specs.List.{AllByRecursion}
 use Rattle.shelf.specs.declared.refusal.Reason.TheVariants.{NotCphd, LineMalformed}
 use Rattle.header.specs.Lines.{file_type}
 use Rattle.header.specs.Keys.{Numeral}
@@ -16,4 +16,4 @@ NoBlanks = (rest : List ℕ) → Refused (file_type ++ (codes "PVP_BLOCK_SIZE:=4
 
 -- 18 digits, the bytes 30 to 39, are a number, and 19 are none
 abbrev pub DigitLimit : Type 0
-DigitLimit = (text : List ℕ) → All (λ b. (48 ≤ b) × (b ≤ 57)) text → (length text ≡ 18 → Numeral text) × (length text ≡ 19 → Numeral text → ⊥)
+DigitLimit = (text : List ℕ) → AllByRecursion (λ b. (48 ≤ b) × (b ≤ 57)) text → (length text ≡ 18 → Numeral text) × (length text ≡ 19 → Numeral text → ⊥)

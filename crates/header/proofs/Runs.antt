@@ -1,6 +1,6 @@
 -- A run of bytes that ends at a byte of another class is the longest, so a line has one key and one value.
 use Rattle.std.proofs.Common.{◌≡◌, ℕ, ◌-◌, ◌<◌, ◌≤◌, List, [], ◌∷◌, ◌++◌, length, get_or, take, drop, sym, refl, ap, ◌∙◌, subst, append_assoc, add-zero, arith, length-drop, take-append-drop, get_or-drop}
-use Rattle.std.specs.List.{AllByRecursion as All}
+use Rattle.std.specs.List.{AllByRecursion}
 use Rattle.std.proofs.lemmas.List.{take_rest}
 use Rattle.header.specs.Bytes.{In, LongestRun}
 use Rattle.header.specs.Lines.{written, LineIs, NoLine, OnlyLine}
@@ -13,10 +13,10 @@ pub tails : {x y : ℕ} {xs ys : List ℕ} → x ∷ xs ≡ y ∷ ys → xs ≡ 
 tails {x} {y} {xs} {ys} e = cc
 
 -- a run up to a byte that is not of P is the longest one
-pub ran_is : (P : ℕ → Type 0) (bs front back k t : List ℕ) (x : ℕ) → LongestRun P bs front back → All P k → (P x → ⊥) → bs ≡ k ++ x ∷ t → (front ≡ k) × (back ≡ x ∷ t)
+pub ran_is : (P : ℕ → Type 0) (bs front back k t : List ℕ) (x : ℕ) → LongestRun P bs front back → AllByRecursion P k → (P x → ⊥) → bs ≡ k ++ x ∷ t → (front ≡ k) × (back ≡ x ∷ t)
 ran_is P bs front back k t x r ak nx e = go front k r.all ak (sym r.whole ∙ e)
   where
-    go : (f k : List ℕ) → All P f → All P k → f ++ back ≡ k ++ x ∷ t → (f ≡ k) × (back ≡ x ∷ t)
+    go : (f k : List ℕ) → AllByRecursion P f → AllByRecursion P k → f ++ back ≡ k ++ x ∷ t → (f ≡ k) × (back ≡ x ∷ t)
     go [] [] a b e = (refl, e)
     go [] (y ∷ k) a b e = absurd (r.stops y _ e b.0)
     go (y ∷ f) [] a b e = absurd (nx (subst P (heads e) a.0))
@@ -26,10 +26,10 @@ ran_is P bs front back k t x r ak nx e = go front k r.all ak (sym r.whole ∙ e)
         let same : y ∷ f ≡ z ∷ k = cc (rest.0, first) in
         (same, rest.1)
 
-pub ran_from : (P : ℕ → Type 0) (bs : List ℕ) (n : ℕ) (front back : List ℕ) → front ≡ take n bs → back ≡ drop n bs → n ≤ length bs → All P (take n bs) → (n < length bs → P (get_or bs n 0) → ⊥) → LongestRun P bs front back
+pub ran_from : (P : ℕ → Type 0) (bs : List ℕ) (n : ℕ) (front back : List ℕ) → front ≡ take n bs → back ≡ drop n bs → n ≤ length bs → AllByRecursion P (take n bs) → (n < length bs → P (get_or bs n 0) → ⊥) → LongestRun P bs front back
 ran_from P bs n front back f b within all stops = record {
   whole = sym (take-append-drop n bs) ∙ sym (λ i. f i ++ b i);
-  all = subst (All P) (sym f) all;
+  all = subst (AllByRecursion P) (sym f) all;
   stops = λ x rest e px.
       let long : length (drop n bs) ≡ length (x ∷ rest) = ap length (sym b ∙ e) in
       let lt : n < length bs = omega (arith, length-drop n bs) in

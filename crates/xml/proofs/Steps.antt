@@ -1,6 +1,6 @@
 -- What one turn of a scanner keeps, and what its end says.
 use Rattle.std.proofs.Common.{◌≡◌, ℕ, ◌+◌, ◌-◌, ◌<◌, ◌≤◌, Bool, true, false, eqb, ◌↔◌, List, [], ◌∷◌, ◌++◌, length, get_or, take, drop, sym, refl, ap, ◌∙◌, subst, ⊎_elim, append_assoc, arith}
-use Rattle.std.specs.List.{AllByRecursion as All}
+use Rattle.std.specs.List.{AllByRecursion}
 use Rattle.std.proofs.ByRecursion.{All-append, All-take, All-get_or}
 use Rattle.std.proofs.lemmas.List.{drop_more, drop_all, drop-drop, take-append-drop, take-take, get_or-take, length-take}
 use Rattle.std.proofs.lemmas.Bool.{both_ways, cases_lt, eqb-true, eq-eqb}
@@ -94,7 +94,7 @@ span_block p text i j h a ys s =
     }
 
 -- what all of one element more are, the elements before it are, and it is
-pub all_less : {X : Type 0} (P : X → Type 0) (xs : List X) (i : ℕ) (d : X) → i < length xs → All P (take (i + 1) xs) → All P (take i xs) × P (get_or xs i d)
+pub all_less : {X : Type 0} (P : X → Type 0) (xs : List X) (i : ℕ) (d : X) → i < length xs → AllByRecursion P (take (i + 1) xs) → AllByRecursion P (take i xs) × P (get_or xs i d)
 all_less P xs i d h a =
     let l : i < length (take (i + 1) xs) = omega (arith, length-take (i + 1) xs) in
-    (subst (All P) (take-take i (i + 1) xs (omega arith)) (All-take P i (take (i + 1) xs) a), subst P (get_or-take (i + 1) xs i d (omega arith)) (All-get_or P (take (i + 1) xs) i d l a))
+    (subst (AllByRecursion P) (take-take i (i + 1) xs (omega arith)) (All-take P i (take (i + 1) xs) a), subst P (get_or-take (i + 1) xs i d (omega arith)) (All-get_or P (take (i + 1) xs) i d l a))

@@ -1,6 +1,6 @@
 -- What stands in a tag after its name.
 use Rattle.std.proofs.Common.{◌≡◌, ℕ, ◌<◌, Bool, true, false, ◌||◌, eqb, ◌⊎◌, ◌↔◌, List, [], ◌∷◌, ◌++◌, length, drop, sym, refl, ap, ◌∙◌, subst, inl, inr, ⊎_elim, arith, length-append, length-drop}
-use Rattle.std.specs.List.{AllByRecursion as All}
+use Rattle.std.specs.List.{AllByRecursion}
 use Rattle.std.proofs.lemmas.Bool.{both_ways, eqb-true, or_cases}
 use Rattle.xml.specs.Bytes.{AllOf, white, name_start_byte, attribute_byte}
 use Rattle.xml.specs.Reads.{tag_end, begins, Span, Ends}
@@ -106,7 +106,7 @@ pub record First (xs zs ys : List ℕ) : Type 0 where
 pub tail_first : (xs zs ys : List ℕ) → Span white xs zs → TailForm xs ys → (ys ≡ zs) ⊎ (First xs zs ys × (begins tag_end zs ≡ false))
 tail_first xs zs ys s f = go f.attributes f.good f.is
   where
-    go : (as' : List Attribute) → All GoodAttribute as' → xs ≡ attributes_text as' (f.space ++ ys) → (ys ≡ zs) ⊎ (First xs zs ys × (begins tag_end zs ≡ false))
+    go : (as' : List Attribute) → AllByRecursion GoodAttribute as' → xs ≡ attributes_text as' (f.space ++ ys) → (ys ≡ zs) ⊎ (First xs zs ys × (begins tag_end zs ≡ false))
     go [] g e = inl (span_only white xs zs ys s (record { run = f.space; all = f.white; is = e; stops = begins_not tag_end white end_not_white ys f.ends }))
     go (a ∷ more) g e =
         let rest = attributes_text more (f.space ++ ys) in

@@ -1,7 +1,7 @@
 -- No text has two trees.
 -- Each lemma `..-unique` says that a text is that of one such thing only, and so is what follows it.
 use Rattle.std.proofs.Common.{◌≡◌, ℕ, ◌-◌, Bool, true, false, cond, eqb, ◌⊎◌, List, [], ◌∷◌, ◌++◌, get_or, codes, sym, refl, ap, ◌∙◌, subst, inl, ⊎_elim, arith}
-use Rattle.std.specs.List.{AllByRecursion as All}
+use Rattle.std.specs.List.{AllByRecursion}
 use Rattle.std.proofs.lemmas.List.{append_cancel_left, append_cancel_right}
 use Rattle.std.proofs.lemmas.Bool.{both_ways, eqb-true, or_cases}
 use Rattle.xml.specs.declared.lookahead.Lookahead.{Lookahead}
@@ -63,7 +63,7 @@ no_attribute v xs w t a g rest e =
 
 -- attributes, with the white space behind them
 module _ (v w xs ys : List ℕ) (wide : AllOf white v) (broad : AllOf white w) (ends : begins tag_end xs ≡ true) (closes : begins tag_end ys ≡ true) where
-  pub attributes_unique : (as' bs : List Attribute) → All GoodAttribute as' → All GoodAttribute bs → attributes_text as' (v ++ xs) ≡ attributes_text bs (w ++ ys) → (as' ≡ bs) × (v ≡ w) × (xs ≡ ys)
+  pub attributes_unique : (as' bs : List Attribute) → AllByRecursion GoodAttribute as' → AllByRecursion GoodAttribute bs → attributes_text as' (v ++ xs) ≡ attributes_text bs (w ++ ys) → (as' ≡ bs) × (v ≡ w) × (xs ≡ ys)
   attributes_unique [] [] g h e = let q = run_unique white v w xs ys wide broad (begins_not tag_end white end_not_white xs ends) (begins_not tag_end white end_not_white ys closes) e in (refl, q.0, q.1)
   attributes_unique [] (b ∷ bs) g h e = absurd (no_attribute v xs wide ends b h.0 _ e)
   attributes_unique (a ∷ as') [] g h e = absurd (no_attribute w ys broad closes a g.0 _ (sym e))
@@ -82,7 +82,7 @@ tag_stops t g rest s = go t.attributes g.attributes
     white_not_name : (b : ℕ) → white b ≡ true → name_byte b ≡ false
     white_not_name = white_not name_byte refl refl refl refl
 
-    go : (as' : List Attribute) → All GoodAttribute as' → begins name_byte (attributes_text as' (t.space ++ rest)) ≡ false
+    go : (as' : List Attribute) → AllByRecursion GoodAttribute as' → begins name_byte (attributes_text as' (t.space ++ rest)) ≡ false
     go [] a = past_white name_byte white_not_name t.space rest g.space (begins_not tag_end name_byte end_not_name rest s)
     go (x ∷ more) a =
         let last = attributes_text more (t.space ++ rest) in

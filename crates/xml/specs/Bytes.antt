@@ -1,6 +1,6 @@
 -- The classes of bytes that the XML block is made of.
 use Rattle.std.specs.Prelude.{◌≡◌, ℕ, Bool, true, not, ◌&&◌, ◌||◌, List, ◌==◌, nat_le}
-use Rattle.std.specs.List.{AllByRecursion as All}
+use Rattle.std.specs.List.{AllByRecursion}
 
 -- white space: 20, 09, 0A and 0D
 abbrev pub white : ℕ → Bool
@@ -28,4 +28,4 @@ value_byte q b = not (b == q) && not (b == 60)
 
 -- every byte is of the kind p
 abbrev pub AllOf : (ℕ → Bool) → List ℕ → Type 0
-AllOf p bs = All (λ b. p b ≡ true) bs
+AllOf p bs = AllByRecursion (λ b. p b ≡ true) bs

@@ -1,6 +1,6 @@
 -- The forms that the readers of single things read.
 use Rattle.std.specs.Prelude.{◌≡◌, ℕ, Bool, true, false, ◌⊎◌, List, [], ◌∷◌, ◌++◌, codes}
-use Rattle.std.specs.List.{AllByRecursion as All}
+use Rattle.std.specs.List.{AllByRecursion}
 use Rattle.xml.specs.declared.lookahead.Lookahead.TheVariants.{Comment, EndTag}
 use Rattle.xml.specs.Bytes.{AllOf, white, attribute_byte, value_byte}
 use Rattle.xml.specs.Grammar.{IsName, Attribute, attributes_text, GoodAttribute, Entity, lt, gt, amp, quot, apos, entity_name, entity_text, NoPair, comment_text, GoodComment, Tree, Content, tree_text, content_text, GoodTree, GoodContent, Misc, misc_text, GoodMisc, Declaration, absent, present, declaration_text, GoodDeclaration}
@@ -32,7 +32,7 @@ AttributeForm = Then (NameForm attribute_byte) (Then (Span white) (Then (Literal
 pub record TailForm (xs ys : List ℕ) : Type 0 where
   pub attributes : List Attribute
   pub space : List ℕ
-  pub good : All GoodAttribute attributes
+  pub good : AllByRecursion GoodAttribute attributes
   pub white : AllOf white space
   pub is : xs ≡ attributes_text attributes (space ++ ys)
   pub ends : begins tag_end ys ≡ true

@@ -1,7 +1,7 @@
 -- The grammar of the XML block: trees, the text that each is written as, and which trees are well formed.
 -- A text is given with what follows it: `treeText t rest` is the text of t, and then rest.
 use Rattle.std.specs.Prelude.{◌≡◌, ℕ, ◌-◌, ◌<◌, Bool, true, ◌⊎◌, List, [], ◌∷◌, ◌++◌, length, codes, ◌≢◌}
-use Rattle.std.specs.List.{AllByRecursion as All}
+use Rattle.std.specs.List.{AllByRecursion}
 use Rattle.xml.specs.Bytes.{AllOf, white, name_start_byte, name_byte, attribute_byte, text_byte, value_byte}
 
 -- how many elements may stand inside one another, the root included
@@ -54,7 +54,7 @@ tag_text t rest = t.name ++ attributes_text t.attributes (t.space ++ rest)
 -- the tag of an element: its name has no colon
 pub record GoodTag (t : Tag) : Type 0 where
   pub name : IsName name_byte t.name
-  pub attributes : All GoodAttribute t.attributes
+  pub attributes : AllByRecursion GoodAttribute t.attributes
   pub space : AllOf white t.space
 
 -- the five references
