@@ -1,7 +1,7 @@
 /*
  * The reader of the XML block of a CPHD 1.1.0 file, for C.
  *
- * Link target/staticlib/libcapi.a, which `rt staticlib capi` proves and builds. It calls nothing else: no C library, no heap.
+ * Link target/staticlib/libcapi.a, which `make target/staticlib/libcapi.a` proves and builds. It calls nothing else: no C library, no heap.
  *
  * Each function reads the `length` bytes at `text` and nothing else, in one call. It writes no memory but its own stack, keeps no
  * pointer, takes nothing over, and there is nothing to let go. The bytes may be any at all; they need no final zero, and must stay as

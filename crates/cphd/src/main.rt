@@ -1,9 +1,9 @@
 // cphd: reads CPHD 1.1.0 products.
 #![tactic(auto)]
 
-use anyhow::anyhow;
 use report::{View, print_files, run_demo};
 use std::env;
+use std::process::ExitCode;
 
 const HELP: &str = "cphd reads CPHD 1.1.0 products (compensated phase history data).
 
@@ -21,11 +21,11 @@ A block is printed as NAME PLACE SIZE, in bytes from the start of the file.
 A line of an outline that ends in xN stands for N elements that follow one another.
 A refusal is printed as: refused NUMBER PLACE: SENTENCE.";
 
-fn main(rt: HostRuntime) -> anyhow::Result<()> {
+fn main(rt: HostRuntime) -> anyhow::Result<ExitCode> {
     if run(&rt)? {
-        return Ok(());
+        return Ok(ExitCode::SUCCESS);
     }
-    Err(anyhow!("refused"))
+    Ok(ExitCode::FAILURE)
 }
 
 // Carries out the command; answers whether it went well.

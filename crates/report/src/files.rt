@@ -5,7 +5,7 @@ ghost use Rattle.report.specs.Sums.{sum_text};
 use crate::header_report::print_header;
 use crate::outline::print_outline;
 use anyhow::anyhow;
-use shelf::{FixedFile, Source};
+use shelf::FixedFile;
 use std::env::Args;
 use std::path::Path;
 use std::{fmt, fs};
