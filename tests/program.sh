@@ -19,7 +19,22 @@ expect() {
     fi
 }
 
+# silent STATUS ARGUMENT...: the status, and nothing on standard error
+silent() {
+    local status=$1 errors got
+    shift
+    errors=$("$program" "$@" 2>&1 >/dev/null)
+    got=$?
+    if [ "$got" -ne "$status" ] || [ -n "$errors" ]; then
+        echo "cphd $*: status $got, expected $status, and on standard error nothing but got '$errors'"
+        failed=1
+    fi
+}
+
 expect 0 '^  accepted$' header "$data/small.cphd"
+silent 0 header "$data/small.cphd"
+silent 1 header "$data/digits_19.cphd"
+silent 1 outline "$blocks/depth_17.cphd"
 expect 1 '^  refused 10 0: ' header "$data/version_1_0_1.cphd"
 expect 1 '^  refused 11 63: ' header "$data/no_space_before_colon.cphd"
 expect 1 '^  refused 14 5: ' header "$data/small.cphd" "$data/digits_19.cphd"

@@ -1,13 +1,12 @@
 // Runs what `cphd demo` runs, so that the gate compares what it prints.
 #![tactic(auto)]
 
-use anyhow::anyhow;
 use report::run_demo;
+use std::process::ExitCode;
 
-fn main(rt: HostRuntime) -> anyhow::Result<()> {
-    let answer = run_demo(&rt);
-    if answer? {
-        return Ok(());
+fn main(rt: HostRuntime) -> anyhow::Result<ExitCode> {
+    if run_demo(&rt)? {
+        return Ok(ExitCode::SUCCESS);
     }
-    Err(anyhow!("the demonstration did not go as it should"))
+    Ok(ExitCode::FAILURE)
 }

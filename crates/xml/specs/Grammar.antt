@@ -1,5 +1,5 @@
 -- The grammar of the XML block: trees, the text that each is written as, and which trees are well formed.
--- A text is given with what follows it: `treeText t rest` is the text of t, and then rest.
+-- A text is given with what follows it: `tree_text t rest` is the text of t, and then rest.
 use Rattle.std.specs.Prelude.{◌≡◌, ℕ, ◌-◌, ◌<◌, Bool, true, ◌⊎◌, List, [], ◌∷◌, ◌++◌, length, codes, ◌≢◌}
 use Rattle.std.specs.List.{AllByRecursion}
 use Rattle.xml.specs.Bytes.{AllOf, white, name_start_byte, name_byte, attribute_byte, text_byte, value_byte}
