@@ -26,7 +26,7 @@ bench: target/bin/bench
 host-test: target/bin/xml_expat
 	target/bin/xml_expat
 
-$(LIBRARY): $(shell find crates/capi crates/xml crates/shelf -type f -not -path '*/must-fail/*' -not -path '*/out/*')
+$(LIBRARY): $(shell find crates/capi crates/xml crates/classes crates/shelf -type f -not -path '*/must-fail/*' -not -path '*/out/*')
 	cd crates/capi && rt lib
 	mkdir -p target/staticlib
 	cp crates/capi/out/libcapi.a $@

@@ -2,7 +2,7 @@
 #![tactic(auto)]
 
 use report::{View, print_files, run_demo};
-use std::env;
+use std::env::{self, Args};
 use std::process::ExitCode;
 
 const HELP: &str = "cphd reads CPHD 1.1.0 products (compensated phase history data).
@@ -21,6 +21,7 @@ A block is printed as NAME PLACE SIZE, in bytes from the start of the file.
 A line of an outline that ends in xN stands for N elements that follow one another.
 A refusal is printed as: refused NUMBER PLACE: SENTENCE.";
 
+// The status is told here and in `demo` alike: a function of both, public and with a contract, would be longer.
 fn main(rt: HostRuntime) -> anyhow::Result<ExitCode> {
     if run(&rt)? {
         return Ok(ExitCode::SUCCESS);
@@ -36,19 +37,13 @@ fn run(rt: &HostRuntime) -> anyhow::Result<bool> {
         return misused(rt, "a command is expected; `cphd help` lists them");
     };
     match command.as_str() {
-        "header" => {
-            let count = print_files(rt, View::Header, args)?;
-            Ok(count.accepted == count.asked)
-        }
+        "header" => print_all(rt, View::Header, args),
         "headers" => {
             let count = print_files(rt, View::Header, args)?;
             println!(rt; "{count}")?;
             Ok(count.read == count.asked)
         }
-        "outline" => {
-            let count = print_files(rt, View::Outline, args)?;
-            Ok(count.accepted == count.asked)
-        }
+        "outline" => print_all(rt, View::Outline, args),
         "demo" => run_demo(rt),
         "help" => {
             println!(rt; "{HELP}")?;
@@ -56,6 +51,12 @@ fn run(rt: &HostRuntime) -> anyhow::Result<bool> {
         }
         _ => misused(rt, "one of header, headers, demo and help is expected"),
     }
+}
+
+// Prints each file; answers whether all were accepted.
+fn print_all(rt: &HostRuntime, view: View, paths: Args) -> anyhow::Result<bool> {
+    let count = print_files(rt, view, paths)?;
+    Ok(count.accepted == count.asked)
 }
 
 // Says what was expected.

@@ -1,10 +1,14 @@
 -- Why the cases of the header hold.
 use Rattle.std.proofs.Common.{◌≡◌, ℕ, ◌≤◌, ◌⊎◌, List, [], ◌∷◌, ◌++◌, get_or, take, codes, sym, refl, ap, inl, inr, arith, lit≤}
 use Rattle.header.specs.Headers.NotStated.{lines}
-use Rattle.header.specs.Tables.LinesRefused.{other_type, malformed}
-use Rattle.header.proofs.Runs.{heads, none_no_separator}
+use Rattle.header.specs.Lines.LinesRefused.{other_type, malformed}
+use Rattle.header.proofs.Runs.{none_no_separator}
 use Rattle.header.proofs.Order.{refused_stage}
 use Rattle.examples.specs.Headers.{OtherVersion, NoBlanks, DigitLimit}
+
+-- lists that are the same begin with the same byte
+heads : {x y : ℕ} {xs ys : List ℕ} → x ∷ xs ≡ y ∷ ys → x ≡ y
+heads {x} {y} {xs} {ys} e = cc
 
 pub digit_limit : DigitLimit
 digit_limit text all = (λ e. record { some = omega arith; short = omega arith; digits = all }, λ e n. omega (arith, n.short))

@@ -1,13 +1,16 @@
 -- How deep nested elements are.
-use Rattle.std.proofs.Common.{◌≡◌, ℕ, zero, suc, ◌+◌, ◌-◌, ◌<◌, List, [], ◌∷◌, ◌++◌, codes, sym, refl, ap, ◌∙◌, subst, arith}
+use Rattle.std.proofs.Common.{◌≡◌, ℕ, zero, suc, ◌+◌, ◌-◌, ◌<◌, List, [], ◌∷◌, ◌++◌, Some, Ok, Err, Result, codes, sym, refl, ap, ◌∙◌, subst, arith}
 use Rattle.std.proofs.lemmas.Bool.{both_ways}
+use Rattle.std.specs.Result.{result_err}
 use Rattle.shelf.proofs.Reasons.{one_reason, said}
 use Rattle.shelf.specs.declared.refusal.Reason.TheVariants.{XmlMalformed}
 use Rattle.shelf.specs.declared.refusal.Refusal.{Refusal}
 use Rattle.shelf.specs.Refusals.{Says}
 use Rattle.shelf.specs.Refusals.Place.{nothing as nowhere}
 use Rattle.xml.specs.Bytes.{white}
-use Rattle.xml.specs.Grammar.{most_depth, Tag, GoodTag, Tree, empty, full, nothing, child, tree_text, GoodTree, Misc, done, space, note, misc_text, GoodMisc, Declaration, absent, present, declaration_text, Document, document_text, GoodDocument}
+use Rattle.xml.specs.Grammar.{most_depth, Tag, GoodTag, Tree, empty, full, nothing, child, tree_text, GoodTree, Misc, done, space, note, misc_text, GoodMisc, Declaration, absent, present, declaration_text, Document, document_text, GoodDocument, IsDocument}
+use Rattle.xml.specs.Walks.{RootAnswer}
+use Rattle.xml.specs.declared.walk.Element.{Element}
 use Rattle.xml.proofs.Steps.{heads, tails}
 use Rattle.xml.proofs.Unique.{tree_unique}
 use Rattle.examples.specs.Depths.{nested, DepthLimit}
@@ -69,3 +72,8 @@ depth_limit n = (
 -- the refusal of a text that is no document
 pub malformed : (e : Refusal) → Says e 21 nowhere 0 → e ≡ record { reason = XmlMalformed; place = 0 }
 malformed e s = λ i. record { reason = one_reason e.reason XmlMalformed (said s) i; place = s.place i }
+
+-- the answer to a text that is no document
+pub refused : (text : List ℕ) (r : Result Element Refusal) → RootAnswer text r → (IsDocument text → ⊥) → result_err r ≡ Some (record { reason = XmlMalformed; place = 0 })
+refused text (Ok e) a none = absurd (none a.whole)
+refused text (Err e) a none = ap Some (malformed e a.0)

@@ -12,7 +12,7 @@ const SIXTEEN: &[u8] = b"<a><a><a><a><a><a><a><a><a><a><a><a><a><a><a><a/>\
 const SEVENTEEN: &[u8] = b"<a><a><a><a><a><a><a><a><a><a><a><a><a><a><a><a><a/>\
 </a></a></a></a></a></a></a></a></a></a></a></a></a></a></a></a>";
 
-// Sixteen elements inside one another.
+// Sixteen elements inside one another. A function over the text would be no shorter, since each text is proved to be what it is.
 fn sixteen() -> &'static [u8]
     ensures { result.now ≡ nested 15 [] }
 {
@@ -39,8 +39,5 @@ pub fn too_deep() -> Option<Refusal>
     ensures answer { result ≡ Some (record { reason = XmlMalformed; place = 0 }) }
     ensures always { DepthLimit }
 {
-    match root(seventeen()) {
-        Ok(_) => None,
-        Err(refusal) => Some(refusal),
-    }
+    root(seventeen()).err()
 }

@@ -1,9 +1,12 @@
+pub mod Exits
 pub mod Runs
-pub mod Steps
+pub mod Reading
+pub mod Finding
 pub mod Amounts
 pub mod Codes
-pub mod Stating
+pub mod Numbers
 pub mod Unique
+pub mod Small
 pub mod Agreement
 pub mod Order
 pub mod Fronts

@@ -1,68 +1,39 @@
 -- A file has at most one list of lines, or else one malformed line, and a key names one number.
 use Rattle.std.proofs.Common.{◌≡◌, ℕ, zero, suc, ◌+◌, ◌<◌, ◌≤◌, List, [], ◌∷◌, length, drop, sym, refl, ap, ◌∙◌, subst, arith}
-use Rattle.header.specs.declared.text.Class.TheVariants.{Key as KeyByte}
 use Rattle.header.specs.declared.keys.Key.{Key}
-use Rattle.header.specs.Bytes.{In}
-use Rattle.header.specs.Lines.{Begins, written, LineIs, NoLine, HeaderLine, line_size, Follow, HeaderText, Malformed, Distinct, Absent, line_at, terminator, lines_start, most_lines}
-use Rattle.header.specs.Keys.{name, Present, NotNumber, HasNumber, Numeral, amount}
-use Rattle.header.proofs.Runs.{heads, same_line}
-use Rattle.header.proofs.Codes.{one_value}
-
--- a key does not begin with 0C
-pub terminator_no_line : (bs k v : List ℕ) → Begins bs terminator → LineIs bs k v → ⊥
-terminator_no_line bs [] v b l = omega (arith, l.some_key)
-terminator_no_line bs (x ∷ k) v b l =
-    let first : x ≡ 12 = heads (sym l.stands.1 ∙ b.1) in
-    let key : In KeyByte 12 = subst (In KeyByte) first l.key_bytes.0 in
-    omega (arith, key)
+use Rattle.header.specs.Lines.{Begins, LineIs, NoLine, HeaderLine, line_size, Follow, HeaderText, Malformed, Distinct, line_at, terminator, lines_start}
+use Rattle.header.specs.Keys.{name, Present, HasNumber, amount}
+use Rattle.header.proofs.Runs.{same_line, terminator_no_line}
+use Rattle.header.proofs.Numbers.{one_value}
 
 same_size : (l m : HeaderLine) → l.key ≡ m.key → l.value ≡ m.value → line_size m ≡ line_size l
-same_size l m e f = λ i. length (written (sym e i) (sym f i))
+same_size l m e f = cc
 
 same_record : (l m : HeaderLine) (p : ℕ) → l.place ≡ p → m.place ≡ p → l.key ≡ m.key → l.value ≡ m.value → l ≡ m
 same_record l m p a b e f = let c : l.place ≡ m.place = a ∙ sym b in λ i. record { place = c i; key = e i; value = f i }
 
-pub follow_same : (bs : List ℕ) (p q q' : ℕ) (ls ms : List HeaderLine) → Follow bs p ls q → Follow bs p ms q' → Begins (drop q bs) terminator → Begins (drop q' bs) terminator → (ls ≡ ms) × (q ≡ q')
-follow_same bs p q q' [] [] f g a b = (refl, sym f ∙ g)
-follow_same bs p q q' [] (m ∷ ms) f g a b = absurd (terminator_no_line (drop p bs) _ _ (subst (λ n. Begins (drop n bs) terminator) (sym f) a) g.1)
-follow_same bs p q q' (l ∷ ls) [] f g a b = absurd (terminator_no_line (drop p bs) _ _ (subst (λ n. Begins (drop n bs) terminator) (sym g) b) f.1)
-follow_same bs p q q' (l ∷ ls) (m ∷ ms) f g a b =
+-- lines from one place are the same, where no line stands behind the shorter list
+same_lines : (bs : List ℕ) (p q q' : ℕ) (ls ms : List HeaderLine) → Follow bs p ls q → Follow bs p ms q' → (length ls < length ms → NoLine (drop q bs)) → (length ms < length ls → NoLine (drop q' bs)) → (ls ≡ ms) × (q ≡ q')
+same_lines bs p q q' [] [] f g none none' = (refl, sym f ∙ g)
+same_lines bs p q q' [] (m ∷ ms) f g none none' = absurd (none (omega arith) _ _ (subst (λ z. LineIs (drop z bs) m.key m.value) f g.1))
+same_lines bs p q q' (l ∷ ls) [] f g none none' = absurd (none' (omega arith) _ _ (subst (λ z. LineIs (drop z bs) l.key l.value) g f.1))
+same_lines bs p q q' (l ∷ ls) (m ∷ ms) f g none none' =
     let same = same_line (drop p bs) _ _ _ _ f.1 g.1 in
     let one : l ≡ m = same_record l m p f.0 g.0 same.0 same.1 in
     let next : Follow bs (p + line_size l) ms q' = subst (λ n. Follow bs (p + n) ms q') (same_size l m same.0 same.1) g.2 in
-    let rest = follow_same bs (p + line_size l) q q' ls ms f.2 next a b in
+    let rest = same_lines bs (p + line_size l) q q' ls ms f.2 next (λ h. none (omega arith)) (λ h. none' (omega arith)) in
     (λ i. one i ∷ rest.0 i, rest.1)
 
 pub text_same : (head : List ℕ) (ls ms : List HeaderLine) (at at' : ℕ) → HeaderText head ls at → HeaderText head ms at' → (ls ≡ ms) × (at ≡ at')
-text_same head ls ms at at' l m = follow_same head lines_start at at' ls ms l.lines m.lines l.ends m.ends
-
--- lines that lead to the end, and lines that lead to a place where neither the end nor a line stands
-follow_malformed : (bs : List ℕ) (n p q q' : ℕ) (ls ms : List HeaderLine) → Follow bs p ls q → Follow bs p ms q' → Begins (drop q bs) terminator → n + length ls ≤ most_lines → (Begins (drop q' bs) terminator → ⊥) → (n + length ms < most_lines → NoLine (drop q' bs)) → ⊥
-follow_malformed bs n p q q' [] [] f g a few none no_line = none (subst (λ z. Begins (drop z bs) terminator) (sym f ∙ g) a)
-follow_malformed bs n p q q' [] (m ∷ ms) f g a few none no_line = terminator_no_line (drop p bs) _ _ (subst (λ z. Begins (drop z bs) terminator) (sym f) a) g.1
-follow_malformed bs n p q q' (l ∷ ls) [] f g a few none no_line = no_line (omega arith) _ _ (subst (λ z. LineIs (drop z bs) l.key l.value) g f.1)
-follow_malformed bs n p q q' (l ∷ ls) (m ∷ ms) f g a few none no_line =
-    let same = same_line (drop p bs) _ _ _ _ f.1 g.1 in
-    let next : Follow bs (p + line_size l) ms q' = subst (λ z. Follow bs (p + z) ms q') (same_size l m same.0 same.1) g.2 in
-    follow_malformed bs (n + 1) (p + line_size l) q q' ls ms f.2 next a (omega arith) none (λ h. no_line (omega arith))
+text_same head ls ms at at' l m = same_lines head lines_start at at' ls ms l.lines m.lines (λ h k v. terminator_no_line _ k v l.ends) (λ h k v. terminator_no_line _ k v m.ends)
 
 pub malformed_text : (head : List ℕ) (ls : List HeaderLine) (at p : ℕ) → HeaderText head ls at → Malformed head p → ⊥
 malformed_text head ls at p l b =
-    follow_malformed head 0 lines_start at p ls b.before l.lines b.lines l.ends (omega (arith, l.few)) b.no_end (λ h. b.no_line (omega arith))
-
--- two ways to a malformed line
-both_malformed : (bs : List ℕ) (n p q q' : ℕ) (ls ms : List HeaderLine) → Follow bs p ls q → Follow bs p ms q' → n + length ls ≤ most_lines → n + length ms ≤ most_lines → (n + length ls < most_lines → NoLine (drop q bs)) → (n + length ms < most_lines → NoLine (drop q' bs)) → q ≡ q'
-both_malformed bs n p q q' [] [] f g few few' none none' = sym f ∙ g
-both_malformed bs n p q q' [] (m ∷ ms) f g few few' none none' = absurd (none (omega arith) _ _ (subst (λ z. LineIs (drop z bs) m.key m.value) f g.1))
-both_malformed bs n p q q' (l ∷ ls) [] f g few few' none none' = absurd (none' (omega arith) _ _ (subst (λ z. LineIs (drop z bs) l.key l.value) g f.1))
-both_malformed bs n p q q' (l ∷ ls) (m ∷ ms) f g few few' none none' =
-    let same = same_line (drop p bs) _ _ _ _ f.1 g.1 in
-    let next : Follow bs (p + line_size l) ms q' = subst (λ z. Follow bs (p + z) ms q') (same_size l m same.0 same.1) g.2 in
-    both_malformed bs (n + 1) (p + line_size l) q q' ls ms f.2 next (omega arith) (omega arith) (λ h. none (omega arith)) (λ h. none' (omega arith))
+    let same = same_lines head lines_start at p ls b.before l.lines b.lines (λ h k v. terminator_no_line _ k v l.ends) (λ h. b.no_line (omega (arith, h, l.few))) in
+    b.no_end (subst (λ z. Begins (drop z head) terminator) same.1 l.ends)
 
 pub malformed_same : (head : List ℕ) (p q : ℕ) → Malformed head p → Malformed head q → p ≡ q
-malformed_same head p q a b =
-    both_malformed head 0 lines_start p q a.before b.before a.lines b.lines (omega (arith, a.few)) (omega (arith, b.few)) (λ h. a.no_line (omega arith)) (λ h. b.no_line (omega arith))
+malformed_same head p q a b = (same_lines head lines_start p q a.before b.before a.lines b.lines (λ h. a.no_line (omega (arith, h, b.few))) (λ h. b.no_line (omega (arith, h, a.few)))).1
 
 -- the places of the lines rise
 place_from : (bs : List ℕ) (p q : ℕ) (ls : List HeaderLine) (j : ℕ) → Follow bs p ls q → j < length ls → p ≤ (line_at ls j).place
@@ -81,10 +52,4 @@ pub number_same : (ls : List HeaderLine) (k : Key) (m n : ℕ) → Distinct ls �
 number_same ls k m n d a b = a.is ∙ ap amount (one_value ls (name k) a.text b.text d a.holds b.holds) ∙ sym b.is
 
 pub number_present : (ls : List HeaderLine) (k : Key) (n : ℕ) → HasNumber ls k n → Present ls k
-number_present ls k n h a = a h.holds.i h.holds.line
-
-pub number_right : (ls : List HeaderLine) (k : Key) (n : ℕ) → Distinct ls → HasNumber ls k n → NotNumber ls k → ⊥
-number_right ls k n d h u = u.wrong (subst Numeral (one_value ls (name k) h.text u.text d h.holds u.holds) h.numeral)
-
-pub absent_right : (ls : List HeaderLine) (k : Key) → Absent ls (name k) → NotNumber ls k → ⊥
-absent_right ls k a u = a u.holds.i u.holds.line
+number_present ls k n h a = a h.holds.line.i h.holds.line.line

@@ -1,5 +1,5 @@
--- Classes of bytes, and runs of one class.
-use Rattle.std.specs.Prelude.{◌≡◌, ℕ, ◌≤◌, ◌⊎◌, List, ◌∷◌, ◌++◌}
+-- Classes of bytes.
+use Rattle.std.specs.Prelude.{◌≡◌, ℕ, ◌≤◌, ◌⊎◌, List}
 use Rattle.std.specs.List.{AllByRecursion}
 use Rattle.header.specs.declared.text.Class.{Class}
 use Rattle.header.specs.declared.text.Class.TheVariants.{Key, Value, Digit}
@@ -13,9 +13,3 @@ In Digit b = (48 ≤ b) × (b ≤ 57)
 -- every byte is of the class
 abbrev pub AllIn : Class → List ℕ → Type 0
 AllIn c bs = AllByRecursion (In c) bs
-
--- bs is front and then back, front is all of P, and back does not begin with a byte of P
-pub record LongestRun (P : ℕ → Type 0) (bs front back : List ℕ) : Type 0 where
-  pub whole : bs ≡ front ++ back
-  pub all : AllByRecursion P front
-  pub stops : (x : ℕ) (rest : List ℕ) → back ≡ x ∷ rest → P x → ⊥

@@ -1,17 +1,12 @@
 -- What a header states, and whether its blocks stand in order.
-use Rattle.std.specs.Prelude.{◌≡◌, ℕ, ◌+◌, ◌^◌, ◌<◌, ◌≤◌, cond, List, Some, None, Option, ◌==◌, ◌≢◌}
+use Rattle.std.specs.Prelude.{◌≡◌, ℕ, ◌+◌, ◌<◌, ◌≤◌, cond, List, Some, None, Option, ◌==◌, ◌≢◌}
 use Rattle.shelf.specs.declared.refusal.Refusal.{Refusal}
-use Rattle.header.specs.declared.header.Extent.{Extent}
+use Rattle.header.specs.declared.extent.Extent.{Extent}
 use Rattle.header.specs.declared.header.Header.{Header}
-use Rattle.header.specs.declared.keys.Key.TheVariants.{XmlSize, XmlPlace, SupportSize, SupportPlace, PvpSize, PvpPlace, SignalSize, SignalPlace, Classification, ReleaseInfo}
-use Rattle.header.specs.Lines.{HeaderLine, HeaderText, Distinct, RepeatedRefused, Absent, Stands}
-use Rattle.header.specs.Keys.{name, code, HasNumber, Complete, MissingRefused, NumbersRefused}
-use Rattle.header.specs.Tables.{LinesRefused}
-
--- the two keys of the support block are absent where there is none, and else say where it stands
-abbrev pub Support : List HeaderLine → Option Extent → Type 0
-Support ls None = Absent ls (name SupportSize) × Absent ls (name SupportPlace)
-Support ls (Some x) = HasNumber ls SupportSize x.size × HasNumber ls SupportPlace x.place
+use Rattle.header.specs.declared.keys.Key.TheVariants.{XmlSize, XmlPlace, SupportPlace, PvpSize, PvpPlace, SignalSize, SignalPlace, Classification, ReleaseInfo}
+use Rattle.header.specs.Lines.{HeaderLine, HeaderText, LinesRefused, Distinct, RepeatedRefused, Stands}
+use Rattle.header.specs.Keys.{name, code, Block, Support, Complete, MissingRefused, NumbersRefused}
+use Rattle.header.specs.Extents.{ends, SmallExtent}
 
 -- head, the file's first bytes up to the header's limit, begins with a header that states h
 pub record Stated (head : List ℕ) (h : Header) : Type 0 where
@@ -20,13 +15,10 @@ pub record Stated (head : List ℕ) (h : Header) : Type 0 where
   pub text : HeaderText head ls at
   pub distinct : Distinct ls
   pub end : h.end ≡ at + 2
-  pub xml_size : HasNumber ls XmlSize h.xml.size
-  pub xml_place : HasNumber ls XmlPlace h.xml.place
+  pub xml : Block ls XmlSize XmlPlace h.xml
   pub support : Support ls h.support
-  pub pvp_size : HasNumber ls PvpSize h.pvp.size
-  pub pvp_place : HasNumber ls PvpPlace h.pvp.place
-  pub signal_size : HasNumber ls SignalSize h.signal.size
-  pub signal_place : HasNumber ls SignalPlace h.signal.place
+  pub pvp : Block ls PvpSize PvpPlace h.pvp
+  pub signal : Block ls SignalSize SignalPlace h.signal
   pub classification : Stands ls (name Classification) h.classification
   pub release : Stands ls (name ReleaseInfo) h.release_info
 
@@ -36,10 +28,6 @@ pub data NotStated (head : List ℕ) (e : Refusal) : Type 0 where
   repeated : (ls : List HeaderLine) (at : ℕ) → HeaderText head ls at → RepeatedRefused ls e → NotStated head e
   missing : (ls : List HeaderLine) (at : ℕ) → HeaderText head ls at → Distinct ls → MissingRefused ls e → NotStated head e
   not_number : (ls : List HeaderLine) (at : ℕ) → HeaderText head ls at → Distinct ls → Complete ls → NumbersRefused ls e → NotStated head e
-
--- where a block ends
-abbrev pub ends : Extent → ℕ
-ends x = x.place + x.size
 
 -- the terminator behind the XML block belongs to its end
 abbrev pub xml_end : Header → ℕ
@@ -84,16 +72,12 @@ pub record FirstMisplaced (h : Header) (len p : ℕ) : Type 0 where
   pub misplaced : Misplaced h len p
   pub first : (o : ℕ) → block_order o < block_order p → Misplaced h len o → ⊥
 
--- place and size have at most 18 digits, so that their sum is no overflow
-abbrev pub SmallExtent : Extent → Type 0
-SmallExtent x = (x.place < 10 ^ 18) × (x.size < 10 ^ 18)
-
--- so have those of a support block, if there is one
+-- place and size of a support block, if there is one, have at most 18 digits
 abbrev pub SmallSupport : Option Extent → Type 0
 SmallSupport None = Unit {0}
 SmallSupport (Some x) = SmallExtent x
 
--- so have those of every block
+-- and so have those of every block
 pub record Small (h : Header) : Type 0 where
   pub xml : SmallExtent h.xml
   pub support : SmallSupport h.support

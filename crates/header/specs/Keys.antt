@@ -1,11 +1,12 @@
 -- The keys of a header and the numbers that they name.
-use Rattle.std.specs.Prelude.{◌≡◌, ℕ, ◌-◌, ◌<◌, ◌≤◌, List, map, length, Some, None, codes, Option, slice_index}
+use Rattle.std.specs.Prelude.{◌≡◌, ℕ, ◌-◌, ◌<◌, ◌≤◌, List, map, length, Some, None, codes, Option}
 use Rattle.std.specs.Int.Digits.{number_from_digits}
 use Rattle.shelf.specs.declared.refusal.Refusal.{Refusal}
 use Rattle.shelf.specs.Refusals.{Says}
 use Rattle.shelf.specs.Refusals.Place.{key}
 use Rattle.header.specs.Bytes.{AllIn}
 use Rattle.header.specs.Lines.{HeaderLine, Holds, Absent}
+use Rattle.header.specs.declared.extent.Extent.{Extent}
 use Rattle.header.specs.declared.text.Class.TheVariants.{Digit}
 use Rattle.header.specs.declared.keys.Key.{Key}
 use Rattle.header.specs.declared.keys.Key.TheVariants.{XmlSize, XmlPlace, SupportSize, SupportPlace, PvpSize, PvpPlace, SignalSize, SignalPlace, Classification, ReleaseInfo}
@@ -74,16 +75,12 @@ Missing ls k = Absent ls (name k) × Required ls (twin k)
 abbrev pub Complete : List HeaderLine → Type 0
 Complete ls = (k : Key) → Missing ls k → ⊥
 
--- of the missing keys k has the lowest code
-pub record FirstMissing (ls : List HeaderLine) (k : Key) : Type 0 where
-  pub missing : Missing ls k
-  pub first : (o : Key) → code o < code k → Missing ls o → ⊥
-
--- the refusal of a header with a missing key: 13 with the lowest code
+-- the refusal of a header with a missing key: 13 with the lowest code of one
 pub record MissingRefused (ls : List HeaderLine) (e : Refusal) : Type 0 where
   pub k : Key
   pub says : Says e 13 key (code k)
-  pub first : FirstMissing ls k
+  pub missing : Missing ls k
+  pub first : (o : Key) → code o < code k → Missing ls o → ⊥
 
 -- 1 to 18 digits
 pub record Numeral (text : List ℕ) : Type 0 where
@@ -108,27 +105,29 @@ pub record NotNumber (ls : List HeaderLine) (k : Key) : Type 0 where
   pub holds : Holds ls (name k) text
   pub wrong : Numeral text → ⊥
 
--- of the keys that must name numbers and do not, k has the lowest code
-pub record FirstNotNumber (ls : List HeaderLine) (k : Key) : Type 0 where
-  pub among : code k ≤ last_number
-  pub not_number : NotNumber ls k
-  pub first : (o : Key) → code o < code k → NotNumber ls o → ⊥
-
 -- the refusal of a key whose value is not a number
 abbrev pub NumberRefused : List HeaderLine → Key → Refusal → Type 0
 NumberRefused ls k e = Says e 14 key (code k) × NotNumber ls k
 
--- the refusal of a header with such a key: 14 with the lowest code
+-- the refusal of a header with such a key, of those that must name numbers: 14 with the lowest code of one
 pub record NumbersRefused (ls : List HeaderLine) (e : Refusal) : Type 0 where
   pub k : Key
   pub says : Says e 14 key (code k)
-  pub first : FirstNotNumber ls k
+  pub among : code k ≤ last_number
+  pub not_number : NotNumber ls k
+  pub first : (o : Key) → code o < code k → NotNumber ls o → ⊥
 
--- the value of the key, if it is there, writes the number n
-pub record ReadNumber (ls : List HeaderLine) (k : Key) (n : ℕ) : Type 0 where
-  pub has : Present ls k → HasNumber ls k n
-  pub right : NotNumber ls k → ⊥
+-- the two keys name the size and the place of the block
+pub record Block (ls : List HeaderLine) (size place : Key) (x : Extent) : Type 0 where
+  pub has_size : HasNumber ls size x.size
+  pub has_place : HasNumber ls place x.place
 
--- the numbers of the keys with codes 1 to 8
-abbrev pub ReadNumbers : List HeaderLine → List ℕ → Type 0
-ReadNumbers ls ns = (k : Key) → code k ≤ last_number → ReadNumber ls k (slice_index ns (code k - 1))
+-- the refusal of a block's keys: the size comes before the place
+pub data BlockRefused (ls : List HeaderLine) (size place : Key) (e : Refusal) : Type 0 where
+  no_size : NumberRefused ls size e → BlockRefused ls size place e
+  no_place : (n : ℕ) → HasNumber ls size n → NumberRefused ls place e → BlockRefused ls size place e
+
+-- the two keys of the support block are absent where there is none, and else say where it stands
+abbrev pub Support : List HeaderLine → Option Extent → Type 0
+Support ls None = Absent ls (name SupportSize) × Absent ls (name SupportPlace)
+Support ls (Some x) = Block ls SupportSize SupportPlace x

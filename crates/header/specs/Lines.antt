@@ -2,10 +2,10 @@
 use Rattle.std.specs.Prelude.{◌≡◌, ℕ, ◌+◌, ◌<◌, ◌≤◌, List, [], ◌∷◌, ◌++◌, length, drop, slice_index_or}
 use Rattle.shelf.specs.declared.refusal.Refusal.{Refusal}
 use Rattle.shelf.specs.Refusals.{Says}
-use Rattle.shelf.specs.Refusals.Place.{line}
+use Rattle.shelf.specs.Refusals.Place.{nothing, line}
 use Rattle.header.specs.Bytes.{AllIn}
 use Rattle.header.specs.declared.text.Class.TheVariants.{Key, Value}
-use Rattle.header.specs.declared.header.Extent.{Extent}
+use Rattle.header.specs.declared.extent.Extent.{Extent}
 
 -- a header has at most this many bytes, its end included
 abbrev pub header_limit : ℕ
@@ -84,6 +84,11 @@ pub record Malformed (head : List ℕ) (p : ℕ) : Type 0 where
   pub no_end : Begins (drop p head) terminator → ⊥
   pub no_line : length before < most_lines → NoLine (drop p head)
 
+-- why head has no lines: its first bytes, or a line
+pub data LinesRefused (head : List ℕ) (e : Refusal) : Type 0 where
+  other_type : Says e 10 nothing 0 → (Begins head file_type → ⊥) → LinesRefused head e
+  malformed : (p : ℕ) → Says e 11 line p → Malformed head p → LinesRefused head e
+
 -- the line of number i, from 0
 abbrev pub line_at : List HeaderLine → ℕ → HeaderLine
 line_at ls i = slice_index_or ls i (record { place = 0; key = []; value = [] })
@@ -100,38 +105,38 @@ Distinct ls = (j : ℕ) → j < length ls → Repeats ls j → ⊥
 abbrev pub RepeatedAt : List HeaderLine → ℕ → Type 0
 RepeatedAt ls p = (j : ℕ) × (j < length ls) × ((line_at ls j).place ≡ p) × Repeats ls j
 
--- line j is the first whose key stood before, and starts at the place p
-pub record FirstRepeated (ls : List HeaderLine) (p : ℕ) : Type 0 where
+-- the refusal of lines with a repeated key: 12 with the place of line j, the first whose key stood before
+pub record RepeatedRefused (ls : List HeaderLine) (e : Refusal) : Type 0 where
   pub j : ℕ
   pub within : j < length ls
-  pub place : (line_at ls j).place ≡ p
+  pub says : Says e 12 line (line_at ls j).place
   pub repeats : Repeats ls j
   pub first : (k : ℕ) → k < j → Repeats ls k → ⊥
-
--- the refusal of lines with a repeated key: 12 with the first such line's place
-pub record RepeatedRefused (ls : List HeaderLine) (e : Refusal) : Type 0 where
-  pub p : ℕ
-  pub says : Says e 12 line p
-  pub first : FirstRepeated ls p
 
 -- line i has this key
 pub record Named (ls : List HeaderLine) (name : List ℕ) (i : ℕ) : Type 0 where
   pub within : i < length ls
   pub named : (line_at ls i).key ≡ name
 
--- a line of this key has this value
-pub record Holds (ls : List HeaderLine) (name value : List ℕ) : Type 0 where
-  pub i : ℕ
-  pub line : Named ls name i
-  pub holds : (line_at ls i).value ≡ value
-
--- the value of a line of this key stands in the file where the extent says
-pub record Stands (ls : List HeaderLine) (name : List ℕ) (x : Extent) : Type 0 where
-  pub i : ℕ
-  pub line : Named ls name i
-  pub place : x.place ≡ (line_at ls i).place + length (line_at ls i).key + 4
-  pub size : x.size ≡ length (line_at ls i).value
-
 -- no line has this key
 abbrev pub Absent : List HeaderLine → List ℕ → Type 0
 Absent ls name = (i : ℕ) → Named ls name i → ⊥
+
+-- a line of this key is l
+pub record LineOf (ls : List HeaderLine) (name : List ℕ) (l : HeaderLine) : Type 0 where
+  pub i : ℕ
+  pub line : Named ls name i
+  pub is : line_at ls i ≡ l
+
+-- a line of this key has this value
+pub record Holds (ls : List HeaderLine) (name value : List ℕ) : Type 0 where
+  pub l : HeaderLine
+  pub line : LineOf ls name l
+  pub holds : l.value ≡ value
+
+-- the value of a line of this key stands in the file where the extent says
+pub record Stands (ls : List HeaderLine) (name : List ℕ) (x : Extent) : Type 0 where
+  pub l : HeaderLine
+  pub line : LineOf ls name l
+  pub place : x.place ≡ l.place + length l.key + 4
+  pub size : x.size ≡ length l.value

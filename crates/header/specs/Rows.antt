@@ -9,7 +9,8 @@ use Rattle.header.specs.declared.keys.Key.{Key}
 use Rattle.header.specs.declared.keys.Key.TheVariants.{XmlSize}
 use Rattle.header.specs.Lines.{HeaderLine, Begins, HeaderText, Malformed, RepeatedAt, file_type, terminator, header_limit}
 use Rattle.header.specs.Keys.{code, last_number, Missing, NotNumber}
-use Rattle.header.specs.Headers.{Stated, InOrder, Misplaced, block_order, ends}
+use Rattle.header.specs.Headers.{Stated, InOrder, Misplaced, block_order}
+use Rattle.header.specs.Extents.{ends}
 
 -- the first bytes of the file, in which its header lies
 abbrev pub front : List ℕ → List ℕ

@@ -1,13 +1,18 @@
 // The header of a CPHD 1.1.0 file: its lines, its keys, and where its blocks stand.
 #![tactic(auto)]
 
+mod entries;
+mod extent;
 mod header;
 mod keys;
+mod lines;
 mod reader;
-mod table;
 mod text;
+mod values;
 
-pub use header::{Extent, Header};
+pub use entries::FILE_TYPE;
+pub use extent::Extent;
+pub use header::Header;
+pub use lines::Lines;
 pub use reader::head;
-pub use table::FILE_TYPE;
 pub use text::{Line, TERMINATOR, first_line};

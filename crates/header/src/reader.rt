@@ -1,7 +1,7 @@
 // Reads the header of a file: its text, its keys, its numbers, and where its blocks stand, in the order of the refusals.
-ghost use Rattle.std.specs.Prelude.{◌≡◌, ◌+◌, ◌-◌, ◌<◌, ◌≤◌, min, length, drop, Decides, Result};
-ghost use Rattle.header.specs.Lines.{Begins, terminator, header_limit};
-ghost use Rattle.header.specs.Rows.{front, Answer};
+ghost use Rattle.std.specs.Prelude.{◌≡◌, ◌+◌, ◌≤◌, length, drop, Decides, Result};
+ghost use Rattle.header.specs.Lines.{Begins, terminator};
+ghost use Rattle.header.specs.Rows.{Answer};
 
 use crate::header::Header;
 use crate::keys::Key;
@@ -17,48 +17,7 @@ fn terminated<S: Source>(source: &S, place: u64) -> bool
     ensures { Decides result (Begins (drop place (S.Source.bytes source.now)) terminator) }
 {
     let mut pair = [0u8; 2];
-    match source.read(place, &mut pair) {
-        Ok(()) => pair == TERMINATOR,
-        Err(_) => false,
-    }
-}
-
-// The header of the file that begins with `first`, its bytes up to the header's limit.
-fn parsed<S: Source>(source: &S, first: &[u8]) -> Result<Header, Refusal>
-    requires { first.now ≡ front (S.Source.bytes source.now) }
-    ensures { Answer (S.Source.bytes source.now) result }
-{
-    let header = Header::stated(first)?;
-    if let Some(code) = header.misplaced(source.len()) {
-        return Err(Refusal {
-            reason: Reason::BlockMisplaced,
-            place: code,
-        });
-    }
-    if !terminated(source, header.xml.end()) {
-        return Err(Refusal {
-            reason: Reason::BlockMisplaced,
-            place: Key::XmlSize.code(),
-        });
-    }
-    Ok(header)
-}
-
-// How many bytes of a file of `len` bytes its header may have.
-fn front_size(len: u64) -> usize
-    ensures { result ≡ min len header_limit }
-{
-    len.min(HEADER_LIMIT as u64) as usize
-}
-
-// The header of the file, whose first bytes are read into `buffer`.
-fn head_in<S: Source>(source: &S, buffer: &mut [u8]) -> Result<Header, Refusal>
-    requires { length buffer.old ≡ header_limit }
-    ensures { Answer (S.Source.bytes source.now) result }
-{
-    let n = front_size(source.len());
-    source.read(0, &mut buffer[0..n])?;
-    parsed(source, &buffer[0..n])
+    source.read(place, &mut pair).is_ok() && pair == TERMINATOR
 }
 
 // The header of the file, or the first refusal that applies.
@@ -67,5 +26,15 @@ pub fn head<S: Source>(source: &S) -> Result<Header, Refusal>
     ensures only { (s : Result Header Refusal) → Answer (S.Source.bytes source.now) s → s ≡ result }
 {
     let mut buffer = [0u8; HEADER_LIMIT];
-    head_in(source, &mut buffer)
+    let n = source.len().min(HEADER_LIMIT as u64) as usize;
+    let first = &mut buffer[..n];
+    source.read(0, first)?;
+    let header = Header::stated(first)?;
+    if let Err(key) = header.in_order(source.len()) {
+        return Err(Reason::BlockMisplaced.at(key.code()));
+    }
+    if !terminated(source, header.xml.end()) {
+        return Err(Reason::BlockMisplaced.at(Key::XmlSize.code()));
+    }
+    Ok(header)
 }

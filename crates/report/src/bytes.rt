@@ -11,8 +11,8 @@ pub(crate) fn bytes_of<S: Source>(
 ) -> anyhow::Result<Vec<u8>> {
     let size = usize::try_from(extent.size)?;
     let mut bytes = vec![in rt.alloc(); 0u8; size]?;
-    match source.read(extent.place, &mut bytes) {
-        Ok(()) => Ok(bytes),
-        Err(_) => Err(anyhow!("the file is shorter than its header says")),
-    }
+    source
+        .read(extent.place, &mut bytes)
+        .map_err(|_| anyhow!("the file is shorter than its header says"))?;
+    Ok(bytes)
 }

@@ -11,6 +11,7 @@ use std::path::Path;
 use std::{fmt, fs};
 
 // What of a file is printed: its header, or the elements of its XML block.
+// An enum: a function in its place would have to be one that may always be called, and no public function asks anything.
 #[derive(Clone, Copy)]
 pub enum View {
     Header,
@@ -18,7 +19,7 @@ pub enum View {
 }
 
 // How many files were asked for, how many of them could be read, and how many of these were accepted.
-#[derive(Drop)]
+#[derive(Drop, Default)]
 pub struct Count {
     pub asked: u64,
     pub read: u64,
@@ -38,11 +39,7 @@ impl fmt::Display for Count {
 
 // Prints each file; one that cannot be read is named on standard error.
 pub fn print_files(rt: &HostRuntime, view: View, paths: Args) -> anyhow::Result<Count> {
-    let mut count = Count {
-        asked: 0,
-        read: 0,
-        accepted: 0,
-    };
+    let mut count = Count::default();
     for path in paths {
         count.asked = count.asked.saturating_add(1);
         let Ok(bytes) = fs::read(rt, path.as_str()) else {

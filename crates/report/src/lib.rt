@@ -6,6 +6,7 @@ mod demo;
 mod files;
 mod header_report;
 mod outline;
+mod refused;
 mod siblings;
 
 pub use demo::run_demo;

@@ -1,19 +1,20 @@
 // The outline of a file's XML block: the names of its elements as a tree.
 use crate::bytes::bytes_of;
+use crate::refused::print_refused;
 use crate::siblings::Siblings;
 use header::head;
-use shelf::{Refusal, Source};
+use shelf::Source;
 use std::alloc::Global;
 use std::fmt::Write;
 use std::str::from_utf8;
-use xml::{Element, first_child, root};
+use xml::{Element, children, root};
 
 // Prints the outline of the XML block, or the refusal; answers whether the block is a document.
 pub fn print_outline<S: Source>(rt: &HostRuntime, name: &str, source: &S) -> anyhow::Result<bool> {
     println!(rt; "{name}")?;
     let header = match head(source) {
         Ok(header) => header,
-        Err(refusal) => return refused(rt, refusal),
+        Err(refusal) => return print_refused(rt, refusal),
     };
     let text = bytes_of(rt, source, header.xml)?;
     match root(&text) {
@@ -21,7 +22,7 @@ pub fn print_outline<S: Source>(rt: &HostRuntime, name: &str, source: &S) -> any
             print_tree(rt, element)?;
             Ok(true)
         }
-        Err(refusal) => refused(rt, refusal),
+        Err(refusal) => print_refused(rt, refusal),
     }
 }
 
@@ -31,11 +32,6 @@ fn print_tree(rt: &HostRuntime, root: Element) -> anyhow::Result<()> {
     let below = outline_of(rt.alloc(), root.content, "    ")?;
     print!(rt; "  {name}\n{below}")?;
     Ok(())
-}
-
-fn refused(rt: &HostRuntime, refusal: Refusal) -> anyhow::Result<bool> {
-    println!(rt; "  {refusal}")?;
-    Ok(false)
 }
 
 // The lines of the elements of a content and of what stands in them: a line an element, its name behind `indent`, and two
@@ -48,16 +44,14 @@ fn outline_of(heap: Global, content: &[u8], indent: &str) -> anyhow::Result<Stri
         below: String::new(heap),
         count: 0,
     };
-    let mut rest = content;
-    while let Some(child) = first_child(rest) {
-        let name = from_utf8(child.element.name)?;
+    for child in children(content) {
+        let name = from_utf8(child.name)?;
         let next = Siblings {
             line: format!(in heap; "{indent}{name}")?,
-            below: outline_of(heap, child.element.content, deeper.as_str())?,
+            below: outline_of(heap, child.content, deeper.as_str())?,
             count: 1,
         };
         last.follow(next, &mut lines)?;
-        rest = child.rest;
     }
     write!(lines, "{last}")?;
     Ok(lines)

@@ -5,7 +5,8 @@ ghost use Rattle.report.specs.Outlines.{Follows, Like, shown};
 use std::fmt;
 use std::fmt::Write;
 
-// The line that they share, which is their name behind its blanks; the lines below one of them; how many they are.
+// The line that they share, which is their name behind its blanks; the lines below one of them; how many they are, none at first: an
+// `Option` of siblings would be matched beside the comparison and in what is printed.
 #[derive(Drop)]
 pub(crate) struct Siblings {
     pub(crate) line: String,
@@ -14,7 +15,7 @@ pub(crate) struct Siblings {
 }
 
 impl Siblings {
-    // Whether the others have the same line, and the same lines below.
+    // Whether the others have the same line, and the same lines below. It is no `==`, since it leaves the count out.
     pub(crate) fn are_like(&self, other: &Siblings) -> bool
         ensures { Decides result (Like self.now other.now) }
     {

@@ -1,14 +1,13 @@
 -- Lists that are joined, and read across the joint.
 use Rattle.std.proofs.Common.{◌≡◌, ℕ, ◌+◌, ◌-◌, ◌≤◌, min, max, List, [], ◌++◌, length, take, drop, Ok, Err, Result, sym, refl, ap, ◌∙◌, subst, inl, inr, append-nil, arith, take-add}
-use borrow.Rule.Slice.PartMut.{post_of, put_mid}
 use Rattle.std.proofs.lemmas.List.{take_all, take_at, drop_at, drop-drop, take-take, length-take, length-append, length-drop, take-append-le, drop-append-le, drop_all, take-append-drop}
 use Rattle.std.proofs.lemmas.Slice.{between_is}
 use Rattle.std.proofs.lemmas.Bool.{cases_lt}
 use Rattle.shelf.specs.declared.refusal.Refusal.{Refusal}
 use Rattle.shelf.specs.declared.joined.JoinedShelf.{JoinedShelf}
 use Rattle.shelf.specs.Kinds.{PartRestocked, PartsLeft}
-use Rattle.shelf.proofs.Parts.{take_min, drop_min}
-use Rattle.shelf.specs.Meaning.{Reads, State, Fit, Restocks, limit}
+use Rattle.std.proofs.lemmas.List.{take_min, drop_min}
+use Rattle.shelf.specs.Meaning.{Filled, Reads, State, Fit, Restocks, limit}
 
 pub joined_length : (xs ys : List ℕ) (top : ℕ) → length (take top (xs ++ ys)) ≡ min (length xs + length ys) top
 joined_length xs ys top = length-take top (xs ++ ys) ∙ omega (arith, length-append xs ys)
@@ -72,42 +71,23 @@ cross xs ys top p n k from next h ef ek en =
           ap (λ (z : List ℕ). z ++ take (n - k) (drop next ys)) a ∙ second ∙ sym right)
     ]
 
-pub joined_reads : (xs ys before buf1 buf2 : List ℕ) (top p k from next : ℕ) (r : Result Unit Refusal)
+-- a read of the first into the front of a buffer, and of the second into the rest, is one of the two joined
+pub joined_reads : (xs ys before near far front back : List ℕ) (top p k from next : ℕ) (r : Result Unit Refusal)
     → p + length before ≤ length (take top (xs ++ ys))
     → from ≡ min p (length xs) → k ≡ min (length before) (length xs - from) → next ≡ max p (length xs) - length xs
-    → buf1 ≡ take (length (take (k - 0) before)) (drop from xs)
-    → Reads ys next (take (length (buf1 ++ post_of 0 (k - 0) before) - k) (drop k (buf1 ++ post_of 0 (k - 0) before))) buf2 r
-    → Reads (take top (xs ++ ys)) p before (put_mid k (length (buf1 ++ post_of 0 (k - 0) before) - k) (buf1 ++ post_of 0 (k - 0) before) buf2) r
-joined_reads xs ys before buf1 buf2 top p k from next r h ef ek en e1 a =
-    let n : ℕ = length before in
-    let both : List ℕ = buf1 ++ post_of 0 (k - 0) before in
-    let m : ℕ = length both - k in
-    let all = joined_length xs ys top in
-    let l0 : length (take (k - 0) before) ≡ k = length-take (k - 0) before ∙ omega (arith, ek) in
-    let b1 : buf1 ≡ take k (drop from xs) = e1 ∙ ap (λ (j : ℕ). take j (drop from xs)) l0 in
-    let lb1 : length buf1 ≡ k = ap length b1 ∙ length-take k (drop from xs) ∙ omega (arith, length-drop from xs, ek) in
-    let ll : length both ≡ n = length-append buf1 (post_of 0 (k - 0) before) ∙ omega (arith, lb1, length-drop (k - 0) before, ek) in
-    let lp : length (take m (drop k both)) ≡ n - k = length-take m (drop k both) ∙ omega (arith, length-drop k both, ll) in
-    by_result r ll lb1 b1 lp all a
-  where
-    both : List ℕ
-    both = buf1 ++ post_of 0 (k - 0) before
-
-    by_result : (r : Result Unit Refusal) → length both ≡ length before → length buf1 ≡ k → buf1 ≡ take k (drop from xs)
-        → length (take (length both - k) (drop k both)) ≡ length before - k → length (take top (xs ++ ys)) ≡ min (length xs + length ys) top
-        → Reads ys next (take (length both - k) (drop k both)) buf2 r → Reads (take top (xs ++ ys)) p before (put_mid k (length both - k) both buf2) r
-    by_result (Ok u) ll lb1 b1 lp all a =
-        let b2 : buf2 ≡ take (length before - k) (drop next ys) = a.filled ∙ ap (λ (j : ℕ). take j (drop next ys)) lp in
-        let t1 : take k both ≡ buf1 = take_at buf1 (post_of 0 (k - 0) before) k lb1 in
-        let t2 : drop (length both - k) (drop k both) ≡ [] = drop_all (length both - k) (drop k both) (omega (arith, length-drop k both)) in
-        record {
-          inside = h;
-          filled = ap (λ (z : List ℕ). z ++ (buf2 ++ drop (length both - k) (drop k both))) t1
-              ∙ ap (λ (z : List ℕ). buf1 ++ (buf2 ++ z)) t2 ∙ ap (λ (z : List ℕ). buf1 ++ z) (append-nil buf2)
-              ∙ ap (λ (z : List ℕ). z ++ buf2) b1 ∙ ap (λ (z : List ℕ). take k (drop from xs) ++ z) b2
-              ∙ cross xs ys top p (length before) k from next (omega (arith, h, all)) ef ek en;
-        }
-    by_result (Err e) ll lb1 b1 lp all a = absurd (omega (arith, a.outside, lp, all, h, ef, ek, en))
+    → length near ≡ k → length far + k ≡ length before
+    → Filled xs from near front → Reads ys next far back r
+    → Reads (take top (xs ++ ys)) p before (front ++ back) r
+joined_reads xs ys before near far front back top p k from next (Ok u) h ef ek en lnear lfar first second =
+    let l : length far ≡ length before - k = omega arith in
+    record {
+      inside = h;
+      filled = ap (λ (z : List ℕ). z ++ back) (first.filled ∙ ap (λ (j : ℕ). take j (drop from xs)) lnear)
+          ∙ ap (λ (z : List ℕ). take k (drop from xs) ++ z) (second.filled ∙ ap (λ (j : ℕ). take j (drop next ys)) l)
+          ∙ cross xs ys top p (length before) k from next (omega (arith, h, joined_length xs ys top)) ef ek en;
+    }
+joined_reads xs ys before near far front back top p k from next (Err e) h ef ek en lnear lfar first second =
+    absurd (omega (arith, second.outside, joined_length xs ys top, h, ef, ek, en, lfar))
 
 -- two shelves as one
 abbrev pub joined : State → State → State

@@ -7,7 +7,8 @@ use crate::reads::{read_from, within_limit};
 use crate::refusal::Refusal;
 use crate::source::Source;
 
-// The first 2^40 bytes of the client's data, under a given stamp.
+// The first 2^40 bytes of the client's data, under a given stamp. Its calls are one line each, as those of a memory shelf are: an impl
+// for whatever has bytes in memory would bar the joined shelf's.
 #[derive(Clone, Copy)]
 pub struct FixedFile<'a> {
     data: &'a [u8],

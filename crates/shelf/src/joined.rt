@@ -21,7 +21,7 @@ struct Cut {
     next: u64,
 }
 
-// Either part may be empty.
+// Either part may be empty. Numbers, as in `inside`.
 fn cut_at(joint: u64, place: u64, wanted: u64) -> Cut
     ensures from { result.from ≡ min place joint }
     ensures near { result.near ≡ min wanted (joint - result.from) }
@@ -74,8 +74,9 @@ impl<A: Source, B: Source> Source for JoinedShelf<A, B> {
         let wanted = buffer.len() as u64;
         inside(self.len(), place, wanted)?;
         let Cut { from, near, next } = cut_at(self.first.len(), place, wanted);
-        self.first.read(from, &mut buffer[0..near as usize])?;
-        self.second.read(next, &mut buffer[near as usize..])
+        let (front, back) = buffer.split_at_mut(near as usize);
+        self.first.read(from, front)?;
+        self.second.read(next, back)
     }
 }
 

@@ -4,6 +4,7 @@
 mod fixed;
 mod joined;
 mod memory;
+mod memory_shelf;
 mod reads;
 mod refusal;
 mod source;

@@ -12,10 +12,7 @@ pub fn within_limit(bytes: &[u8]) -> &[u8]
     ensures value { result.now ≡ take limit bytes.now }
     ensures bound { length result.now ≤ limit }
 {
-    if bytes.len() as u64 <= LIMIT {
-        return bytes;
-    }
-    &bytes[0..LIMIT as usize]
+    &bytes[..bytes.len().min(LIMIT as usize)]
 }
 
 // The sum of two lengths or capacities, at most 2^40.
@@ -25,15 +22,13 @@ pub fn joined_size(first: u64, second: u64) -> u64
     first.saturating_add(second).min(LIMIT)
 }
 
-// Whether a read of `wanted` bytes from `place` stays inside `length` bytes.
+// Whether a read of `wanted` bytes from `place` stays inside `length` bytes. Numbers, since a struct of them would be made
+// for one call and taken apart in it.
 pub fn inside(length: u64, place: u64, wanted: u64) -> Result<(), Refusal>
     ensures { MatchResult result (λ _. place + wanted ≤ length) (λ e. (length < place + wanted) × Says e 3 byte_length length) }
 {
     if place > length || wanted > length - place {
-        return Err(Refusal {
-            reason: Reason::PastEnd,
-            place: length,
-        });
+        return Err(Reason::PastEnd.at(length));
     }
     Ok(())
 }
@@ -49,21 +44,16 @@ pub fn read_from(bytes: &[u8], place: u64, buffer: &mut [u8]) -> Result<(), Refu
     Ok(())
 }
 
-// Whether a shelf of this capacity and stamp takes `size` bytes under the stamp `new`.
+// Whether a shelf of this capacity and stamp takes `size` bytes under the stamp `new`. It takes numbers: a call that takes the
+// shelf, from its own `restock`, is not covered by the borrow checker yet.
 pub fn fit(capacity: u64, stamp: u32, size: u64, new: u32) -> Result<(), Refusal>
     ensures { MatchResult result (λ _. Fit capacity stamp size new) (Unfit capacity stamp size new) }
 {
     if new <= stamp {
-        return Err(Refusal {
-            reason: Reason::StampNotAbove,
-            place: stamp as u64,
-        });
+        return Err(Reason::StampNotAbove.at(u64::from(stamp)));
     }
     if size > capacity {
-        return Err(Refusal {
-            reason: Reason::OverCapacity,
-            place: capacity,
-        });
+        return Err(Reason::OverCapacity.at(capacity));
     }
     Ok(())
 }

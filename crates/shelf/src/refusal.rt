@@ -1,15 +1,13 @@
 // Why a call is refused, and where.
-ghost use Rattle.std.specs.Prelude.{◌≡◌, ◌==◌, Some, Decides};
+ghost use Rattle.std.specs.Prelude.{◌≡◌, Some};
+ghost use Rattle.shelf.specs.declared.refusal.Reason.{Reason};
 ghost use Rattle.shelf.specs.Refusals.{number};
 ghost use Rattle.shelf.specs.Sentences.{sentence, shown};
-ghost use Rattle.std.specs.Cmp.Rules.{comparing};
-ghost use Rattle.std.proofs.Common.{rules};
-ghost use Rattle.std.specs.Ordering.{on};
 
 use std::fmt;
 
-// Each reason stands for a number, by which callers and documents name it.
-#[derive(Clone, Copy)]
+// Why a call is refused: each reason stands for a number.
+#[derive(Clone, Copy, PartialEq, Eq)]
 pub enum Reason {
     // Shelves and sources.
     StampNotAbove = 1,
@@ -40,7 +38,8 @@ pub enum Reason {
     OutputTooShort = 53,
 }
 
-// A refusal: its reason, and a place whose meaning the reason fixes (a stamp, a length, a place in the file, a code).
+// A refusal: its reason, and a place whose meaning the reason fixes (a stamp, a length, a place in the file, a code). It is a pair,
+// since every refusal has a place, by which documents and C programs tell it; an enum with data would ask for a match.
 #[derive(Clone, Copy, PartialEq, Eq)]
 pub struct Refusal {
     pub reason: Reason,
@@ -48,8 +47,21 @@ pub struct Refusal {
 }
 
 impl Reason {
+    // The refusal for this reason, with its place.
+    pub fn at(self, place: u64) -> Refusal
+        ensures reason { result.reason ≡ self }
+        ensures place { result.place ≡ place }
+    {
+        Refusal {
+            reason: self,
+            place,
+        }
+    }
+
+    // The number, by which callers and documents name the reason: a method, since `u8::from(reason)` would say less.
     pub fn number(self) -> u8
-        ensures { result ≡ number self }
+        ensures own { result ≡ number self }
+        ensures alone { (other : Reason) → number other ≡ result → other ≡ self }
     {
         self as u8
     }
@@ -94,30 +106,6 @@ impl Reason {
                 "the output is shorter than the bytes to hand out; the place is how many they are",
         }
     }
-}
-
-fn same_number(a: Reason, b: Reason) -> bool
-    ensures { Decides result (number a ≡ number b) }
-{
-    a.number() == b.number()
-}
-
-// Reasons are equal exactly when their numbers are: no two share one.
-impl PartialEq for Reason {
-    ghost eq = { on number ◌==◌ };
-
-    ghost laws = { Prim.search (comparing, rules) };
-
-    fn eq(&self, other: &Reason) -> bool
-        ensures value { result ≡ on number ◌==◌ self.now other.now }
-        ensures same { Decides result (self.now ≡ other.now) }
-    {
-        same_number(*self, *other)
-    }
-}
-
-impl Eq for Reason {
-    ghost laws = { Prim.search (comparing, rules) };
 }
 
 impl fmt::Display for Refusal {

@@ -1,139 +1,115 @@
 -- An element from its parts.
-use Rattle.std.proofs.Common.{◌≡◌, ℕ, ◌+◌, ◌-◌, ◌<◌, ◌≤◌, true, false, eqb, List, [], ◌∷◌, ◌++◌, length, take, drop, sym, refl, ap, ◌∙◌, arith, length-append, length-drop}
+use Rattle.std.proofs.Common.{◌≡◌, ℕ, ◌+◌, ◌-◌, ◌<◌, true, false, eqb, List, [], ◌∷◌, ◌++◌, length, take, None, Option, sym, refl, ap, ◌∙◌, subst, arith, length-append}
 use Rattle.std.proofs.lemmas.List.{take_at}
-use Rattle.std.proofs.lemmas.Bool.{both_ways}
-use Rattle.xml.specs.declared.element.Parts.{Parts}
-use Rattle.xml.specs.declared.tag.StartTag.{StartTag}
+use Rattle.std.specs.Cmp.Lexicographic.{pointwise}
+use Rattle.xml.specs.declared.walk.Child.{Child}
+use Rattle.xml.specs.Bytes.{name_byte, tag_end}
 use Rattle.xml.specs.Grammar.{Tag, tag_text, GoodTag, attributes_text, Tree, empty, full, tree_text, content_text, GoodTree}
-use Rattle.xml.specs.Reads.{tag_end, Form, Literal, begins, Ends, Missing, Then}
-use Rattle.xml.specs.Forms.{EndForm, ElementForm, ContentForm}
-use Rattle.xml.specs.Parts.{StartForm, StartsAt, between, StandsAt}
+use Rattle.xml.specs.Reads.{Form, Literal, begins, Ends, Missing, Then}
+use Rattle.xml.specs.Forms.{Named, NameForm, Start, TailForm, EndForm, ElementForm, ContentForm}
+use Rattle.xml.specs.Elements.{FirstElement, ElementAnswer}
+use Rattle.xml.specs.Walks.{content_of}
 use Rattle.xml.proofs.Unique.{tag_stops, tag_unique, tree_unique}
-use Rattle.xml.proofs.Steps.{tails}
-use Rattle.xml.proofs.Texts.{content_append}
+use Rattle.xml.proofs.Steps.{tails, cases_none, literal_reads}
+use Rattle.xml.proofs.Texts.{length-tag, content_append}
 
--- what stands between two places, where the rest from the second is known
-pub cut : (text run : List ℕ) (from to : ℕ) → from ≤ to → to ≤ length text → drop from text ≡ run ++ drop to text → between text from to ≡ run
-cut text run from to h k e =
-    let long = ap length e ∙ length-append run (drop to text) in
-    let same : length run ≡ to - from = omega (arith, long, length-drop from text, length-drop to text) in
-    ap (take (to - from)) e ∙ take_at run (drop to text) (to - from) same
-
--- a good tag in front of its end is a start tag
-opening : (t : Tag) → GoodTag t → (rest xs : List ℕ) → begins tag_end rest ≡ true → xs ≡ 60 ∷ tag_text t rest → StartForm xs rest
-opening t g rest xs s e = (
-  tag_text t rest,
-  e,
-  (
-    attributes_text t.attributes (t.space ++ rest),
-    record { name = t.name; good = g.name; is = refl; stops = tag_stops t g rest s },
-    record { attributes = t.attributes; space = t.space; good = g.attributes; white = g.space; is = refl; ends = s },
-  ),
+-- a good tag in front of its end is a name and what follows it
+opening : (t : Tag) → GoodTag t → (rest : List ℕ) → begins tag_end rest ≡ true → Then (NameForm name_byte) TailForm (tag_text t rest) rest
+opening t g rest s = (
+  attributes_text t.attributes (t.space ++ rest),
+  (t.name, record { good = g.name; is = refl; stops = tag_stops t g rest s }),
+  record { attributes = t.attributes; space = t.space; good = g.attributes; white = g.space; is = refl; ends = s },
 )
 
--- an element starts with a start tag
-pub no_start : (d : ℕ) (text : List ℕ) (at : ℕ) → Missing StartForm text at → Missing (ElementForm d) text at
-no_start d text at m ys f = go f.tree f.good f.is
-  where
-    go : (t : Tree) → GoodTree t d → drop at text ≡ tree_text t ys → ⊥
-    go (empty t) g e = m _ (opening t g.1 (47 ∷ 62 ∷ ys) _ refl e)
-    go (full t c s) g e = m _ (opening t g.1 (62 ∷ content_text c (60 ∷ 47 ∷ (t.name ++ (s ++ (62 ∷ ys))))) _ refl e)
+-- a start tag is that, behind a `<`
+pub start_read : (xs body name mid ys : List ℕ) → xs ≡ 60 ∷ body → Named name_byte body name mid → TailForm mid ys → Start xs name ys
+start_read xs body name mid ys e n t = record {
+  tag = record { name = name; attributes = t.attributes; space = t.space };
+  good = record { name = n.good; attributes = t.good; space = t.white };
+  is = e ∙ ap (λ l. 60 ∷ l) (n.is ∙ ap (λ l. name ++ l) t.is);
+  named = refl;
+  ends = t.ends;
+}
 
-pub no_depth : (text : List ℕ) (at d : ℕ) → d ≡ 0 → Missing (ElementForm d) text at
-no_depth text at d z ys f = go f.tree f.good
+pub start_none : (xs body : List ℕ) → xs ≡ 60 ∷ body → Missing (Then (NameForm name_byte) TailForm) body → (name ys : List ℕ) → Start xs name ys → ⊥
+start_none xs body e m name ys s =
+    let P : List ℕ → Type 0 = λ l. Then (NameForm name_byte) TailForm l ys in
+    m ys (subst P (tails (sym s.is ∙ e)) (opening s.tag s.good ys s.ends))
+
+-- an element starts with a start tag
+pub no_element : (d : ℕ) (xs : List ℕ) → ((name ys : List ℕ) → Start xs name ys → ⊥) → Missing (ElementForm d) xs
+no_element d xs m ys f = go f.tree f.good f.is
+  where
+    go : (t : Tree) → GoodTree t d → xs ≡ tree_text t ys → ⊥
+    go (empty t) g e = m t.name (47 ∷ 62 ∷ ys) (record { tag = t; good = g.1; is = e; named = refl; ends = refl })
+    go (full t c s) g e = m t.name (62 ∷ content_text c (60 ∷ 47 ∷ (t.name ++ (s ++ (62 ∷ ys))))) (record { tag = t; good = g.1; is = e; named = refl; ends = refl })
+
+pub no_depth : (d : ℕ) (xs : List ℕ) → d ≡ 0 → Missing (ElementForm d) xs
+no_depth d xs z ys f = go f.tree f.good
   where
     go : (t : Tree) → GoodTree t d → ⊥
     go (empty t) g = omega (arith, g.0)
     go (full t c s) g = omega (arith, g.0)
 
--- an element that stands at a place ends at one
-pub stands_ends : (text : List ℕ) (d at : ℕ) (p : Parts) → StandsAt text d at p → Ends (ElementForm d) text at p.end
-stands_ends text d at p s =
-    let h₁ = s.name_start in
-    let h₂ = s.name_end in
-    let h₃ = s.inner_start in
-    let h₄ = s.inner_end in
-    record {
-      after = omega arith;
-      within = s.within;
-      is = record { tree = s.tree; good = s.good; is = s.is };
-      only = λ rest f. (tree_unique f.tree s.tree d d f.good s.good rest (drop p.end text) (sym f.is ∙ s.is)).1;
-    }
+-- the first element is the only one
+pub element_ends : (d : ℕ) (xs name inner rest : List ℕ) → FirstElement d xs name inner rest → Ends (ElementForm d) xs rest
+element_ends d xs name inner rest e = record {
+  is = record { tree = e.tree; good = e.good; is = e.is };
+  only = λ ys f. (tree_unique f.tree e.tree d d f.good e.good ys rest (sym f.is ∙ e.is)).1;
+}
+
+pub answer_none : (d : ℕ) (xs : List ℕ) (r : Option Child) → r ≡ None → Missing (ElementForm d) xs → ElementAnswer d xs r
+answer_none d xs r e m = cases_none r (Missing (ElementForm d) xs) (λ k. FirstElement d xs k.element.name.now k.element.content.now k.rest.now) e m
+
+-- what follows an element is shorter, also with its content
+pub element_forward : (d : ℕ) (xs name inner rest : List ℕ) → FirstElement d xs name inner rest → length inner + length rest < length xs
+element_forward d xs name inner rest e = go e.tree (ap length e.is) (ap length e.holds)
+  where
+    go : (t : Tree) → length xs ≡ length (tree_text t rest) → length inner ≡ length (content_text (content_of t) []) → length inner + length rest < length xs
+    go (empty t) h k = let tag = length-tag t (47 ∷ 62 ∷ rest) in omega (arith, h, k)
+    go (full t c s) h k =
+        let last = t.name ++ (s ++ (62 ∷ rest)) in
+        let tag = length-tag t (62 ∷ content_text c (60 ∷ 47 ∷ last)) in
+        let held = ap length (content_append c [] (60 ∷ 47 ∷ last)) ∙ length-append (content_text c []) (60 ∷ 47 ∷ last) in
+        omega (arith, h, k, length-append t.name (s ++ (62 ∷ rest)), length-append s (62 ∷ rest))
+
+-- what is left of a list where some of its end is cut off
+pub front : (run rest xs : List ℕ) → xs ≡ run ++ rest → take (length xs - length rest) xs ≡ run
+front run rest xs e = ap (take (length xs - length rest)) e ∙ take_at run rest (length xs - length rest) (omega (arith, ap length e, length-append run rest))
 
 -- the content and the end tag behind a start tag
 abbrev pub Rest : ℕ → List ℕ → Form
 Rest d name = Then (Literal (62 ∷ [])) (Then (ContentForm d) (EndForm name))
 
-module _ (text : List ℕ) (at : ℕ) (s : StartTag) (o : StartsAt text at s) where
-  abbrev the_tag : Tag
-  the_tag = record { name = o.name.is.name; attributes = o.tail.is.attributes; space = o.tail.is.space }
-
-  good_tag : GoodTag the_tag
-  good_tag = record { name = o.name.is.good; attributes = o.tail.is.good; space = o.tail.is.white }
-
-  is_tag : drop at text ≡ 60 ∷ tag_text the_tag (drop s.end text)
-  is_tag = o.bracket.is ∙ ap (λ l. 60 ∷ l) (o.name.is.is ∙ ap (λ l. o.name.is.name ++ l) o.tail.is.is)
-
+module _ (xs name end : List ℕ) (s : Start xs name end) where
   -- whatever tag stands there is this one
-  tagged : (t : Tag) → GoodTag t → (rest : List ℕ) → begins tag_end rest ≡ true → drop at text ≡ 60 ∷ tag_text t rest → (t ≡ the_tag) × (rest ≡ drop s.end text)
-  tagged t g rest e i = tag_unique t the_tag g good_tag rest (drop s.end text) e o.tail.is.ends (tails (sym i ∙ is_tag))
-
-  pub name_cut : between text (at + 1) s.name_end ≡ o.name.is.name
-  name_cut = cut text o.name.is.name (at + 1) s.name_end o.name.after o.name.within o.name.is.is
+  tagged : (t : Tag) → GoodTag t → (rest : List ℕ) → begins tag_end rest ≡ true → xs ≡ 60 ∷ tag_text t rest → (t ≡ s.tag) × (rest ≡ end)
+  tagged t g rest e i = tag_unique t s.tag g s.good rest end e s.ends (tails (sym i ∙ s.is))
 
   -- an empty tag
-  pub empty_stands : (d end : ℕ) → 0 < d → Ends (Literal (47 ∷ 62 ∷ [])) text s.end end → StandsAt text d at (record { name_end = s.name_end; inner = s.end; close = s.end; end = end })
-  empty_stands d end h l =
-      let a = o.name.after in
-      let b = o.tail.after in
-      let c = l.after in
-      record {
-        tree = empty the_tag;
-        good = (h, good_tag);
-        is = is_tag ∙ ap (λ r. 60 ∷ tag_text the_tag r) l.is;
-        within = l.within;
-        name_start = a;
-        name_end = b;
-        inner_start = omega arith;
-        inner_end = c;
-        name = name_cut;
-        inner = cut text [] s.end s.end (omega arith) o.tail.within refl;
-      }
-
-  pub empty_missing : (d : ℕ) → begins (λ x. eqb x 47) (drop s.end text) ≡ true → Missing (Literal (47 ∷ 62 ∷ [])) text s.end → Missing (ElementForm d) text at
-  empty_missing d b m ys f = go f.tree f.good f.is
-    where
-      go : (t : Tree) → GoodTree t d → drop at text ≡ tree_text t ys → ⊥
-      go (empty t) g e = m ys (sym (tagged t g.1 (47 ∷ 62 ∷ ys) refl e).1)
-      go (full t c w) g e = both_ways false refl (ap (begins (λ x. eqb x 47)) (tagged t g.1 (62 ∷ content_text c (60 ∷ 47 ∷ (t.name ++ (w ++ (62 ∷ ys))))) refl e).1 ∙ b)
+  pub empty_element : (d : ℕ) (ys : List ℕ) → 0 < d → end ≡ 47 ∷ 62 ∷ ys → FirstElement d xs name [] ys
+  empty_element d ys h e = record { tree = empty s.tag; good = (h, s.good); is = s.is ∙ ap (λ r. 60 ∷ tag_text s.tag r) e; named = s.named; holds = refl }
 
   -- a start tag, content and an end tag
-  pub full_stands : (d inner close end : ℕ) → 0 < d → Ends (Literal (62 ∷ [])) text s.end inner → Ends (ContentForm (d - 1)) text inner close → Ends (EndForm o.name.is.name) text close end → StandsAt text d at (record { name_end = s.name_end; inner = inner; close = close; end = end })
-  full_stands d inner close end h l c e =
-      let a₁ = o.name.after in
-      let a₂ = o.tail.after in
-      let a₃ = l.after in
-      let a₄ = c.after in
-      let a₅ = e.after in
-      record {
-        tree = full the_tag c.is.tree e.is.space;
-        good = (h, good_tag, c.is.good, e.is.good);
-        is = is_tag ∙ ap (λ r. 60 ∷ tag_text the_tag r) (l.is ∙ ap (λ r. 62 ∷ r) (c.is.is ∙ ap (content_text c.is.tree) e.is.is));
-        within = e.within;
-        name_start = a₁;
-        name_end = omega arith;
-        inner_start = a₄;
-        inner_end = a₅;
-        name = name_cut;
-        inner = cut text (content_text c.is.tree []) inner close a₄ c.within (c.is.is ∙ content_append c.is.tree [] (drop close text));
-      }
+  pub full_element : (d : ℕ) (inner close ys : List ℕ) → 0 < d → end ≡ 62 ∷ inner → (c : ContentForm (d - 1) inner close) → EndForm name close ys → FirstElement d xs name (take (length inner - length close) inner) ys
+  full_element d inner close ys h l c e = record {
+    tree = full s.tag c.tree e.space;
+    good = (h, s.good, c.good, e.good);
+    is = s.is ∙ ap (λ r. 60 ∷ tag_text s.tag r) (l ∙ ap (λ r. 62 ∷ r) (c.is ∙ ap (content_text c.tree) (e.is ∙ ap (λ n. 60 ∷ 47 ∷ (n ++ (e.space ++ (62 ∷ ys)))) s.named)));
+    named = s.named;
+    holds = front (content_text c.tree []) close inner (c.is ∙ content_append c.tree [] close);
+  }
 
-  pub full_missing : (d : ℕ) → begins (λ x. eqb x 47) (drop s.end text) ≡ false → Missing (Rest (d - 1) o.name.is.name) text s.end → Missing (ElementForm d) text at
-  full_missing d b m ys f = go f.tree f.good f.is
+  -- no element, where neither follows the start tag
+  missing : (d : ℕ) → Missing (Literal (47 ∷ 62 ∷ [])) end → Missing (Rest (d - 1) name) end → Missing (ElementForm d) xs
+  missing d m n ys f = go f.tree f.good f.is
     where
-      go : (t : Tree) → GoodTree t d → drop at text ≡ tree_text t ys → ⊥
-      go (empty t) g e = both_ways true (ap (begins (λ x. eqb x 47)) (tagged t g.1 (47 ∷ 62 ∷ ys) refl e).1 ∙ b) refl
+      go : (t : Tree) → GoodTree t d → xs ≡ tree_text t ys → ⊥
+      go (empty t) g e = m ys (sym (tagged t g.1 (47 ∷ 62 ∷ ys) refl e).1)
       go (full t c w) g e =
           let last = 60 ∷ 47 ∷ (t.name ++ (w ++ (62 ∷ ys))) in
           let same = tagged t g.1 (62 ∷ content_text c last) refl e in
-          m ys (content_text c last, sym same.1, (last, record { tree = c; good = g.2; is = refl; stops = refl }, record { space = w; good = g.3; is = ap (λ u. 60 ∷ 47 ∷ (u.name ++ (w ++ (62 ∷ ys)))) same.0 }))
+          n ys (content_text c last, sym same.1, (last, record { tree = c; good = g.2; is = refl; stops = refl }, record { space = w; good = g.3; is = ap (λ u. 60 ∷ 47 ∷ (u ++ (w ++ (62 ∷ ys)))) (ap (λ u. u.name) same.0 ∙ sym s.named) }))
+
+  pub refused : (d : ℕ) (r : Option Child) → r ≡ None → pointwise eqb (take 2 end) (47 ∷ 62 ∷ []) ≡ false → Missing (Rest (d - 1) name) end → ElementAnswer d xs r
+  refused d r e m n = answer_none d xs r e (missing d (literal_reads (47 ∷ 62 ∷ []) end None m) n)

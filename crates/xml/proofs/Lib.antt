@@ -2,12 +2,12 @@ pub mod Steps
 mod Forms
 mod Tags
 mod Comments
-mod Firsts
+mod References
 mod Shapes
 pub mod Unique
 mod Texts
 mod Contents
 mod Elements
-mod References
 mod Documents
 mod Walks
+pub mod ChildWalks

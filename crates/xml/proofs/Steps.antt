@@ -1,10 +1,15 @@
--- What one turn of a scanner keeps, and what its end says.
-use Rattle.std.proofs.Common.{◌≡◌, ℕ, ◌+◌, ◌-◌, ◌<◌, ◌≤◌, Bool, true, false, eqb, ◌↔◌, List, [], ◌∷◌, ◌++◌, length, get_or, take, drop, sym, refl, ap, ◌∙◌, subst, ⊎_elim, append_assoc, arith}
+-- What a reader has when a part of a text is read, and the longest runs of one kind of byte.
+use Rattle.std.proofs.Common.{◌≡◌, ◌≢◌, ℕ, ◌+◌, ◌-◌, ◌≤◌, Bool, true, false, eqb, ◌&&◌, fold, Decides, ◌↔◌, List, [], ◌∷◌, ◌++◌, length, get_or, take, drop, Some, None, Option, Bor, sym, refl, ap, ◌∙◌, subst, append_assoc, arith, MatchOption}
 use Rattle.std.specs.List.{AllByRecursion}
-use Rattle.std.proofs.ByRecursion.{All-append, All-take, All-get_or}
-use Rattle.std.proofs.lemmas.List.{drop_more, drop_all, drop-drop, take-append-drop, take-take, get_or-take, length-take}
-use Rattle.std.proofs.lemmas.Bool.{both_ways, cases_lt, eqb-true, eq-eqb}
-use Rattle.xml.specs.Reads.{Literal, begins, Span, Ends}
+use Rattle.std.proofs.ByRecursion.{All-append}
+use Rattle.std.proofs.lemmas.List.{append_cancel_left, append_cancel_right, take_all}
+use Rattle.std.proofs.lemmas.Bool.{both_ways, and_parts, and_from}
+use Rattle.classes.specs.Runs.{LongestRun}
+use Rattle.xml.specs.Reads.{Form, Literal, begins, Span, Ends, Missing, Reads, Then}
+use Rattle.std.proofs.lemmas.Grind.{common_steps}
+use Rattle.std.proofs.lemmas.Slice.Eq.{strip_prefix_is}
+use Rattle.std.proofs.lemmas.Bool.Decides.{Decides-eqb}
+use Rattle.std.specs.Cmp.Lexicographic.{pointwise}
 use Rattle.xml.specs.Bytes.{AllOf}
 
 pub tails : {x y : ℕ} {xs ys : List ℕ} → x ∷ xs ≡ y ∷ ys → xs ≡ ys
@@ -14,87 +19,105 @@ pub heads : {x y : ℕ} {xs ys : List ℕ} → x ∷ xs ≡ y ∷ ys → x ≡ y
 heads e = cc
 
 pub no_cons : {x : ℕ} {xs : List ℕ} → [] ≡ x ∷ xs → ⊥
-no_cons e = let z : ◌≡◌ {A = ℕ} 0 1 = cc in omega arith
+no_cons e = cc
+
+-- one thing and then another
+pub missing_first : (G H : Form) (xs : List ℕ) → Missing G xs → Missing (Then G H) xs
+missing_first G H xs m ys t = m t.0 t.1
+
+pub reads_then : (G H : Form) (xs ys : List ℕ) (r : Option (Bor (List ℕ))) → Ends G xs ys → Reads H ys r → Reads (Then G H) xs r
+reads_then G H xs ys None g h = λ zs t. h zs (subst (λ l. H l zs) (g.only t.0 t.1) t.2)
+reads_then G H xs ys (Some rest) g h = record { is = (ys, g.is, h.is); only = λ zs t. h.only zs (subst (λ l. H l zs) (g.only t.0 t.1) t.2) }
+
+-- an answer that is None
+pub cases_none : {A : Type 0} (o : Option A) (P : Type 0) (Q : A → Type 0) → o ≡ None → P → MatchOption o P Q
+cases_none o P Q e p = subst (λ r. MatchOption r P Q) (sym e) p
+
+pub reads_none : (G : Form) (xs : List ℕ) (r : Option (Bor (List ℕ))) → r ≡ None → Missing G xs → Reads G xs r
+reads_none G xs r e m = cases_none r (Missing G xs) (λ ys. Ends G xs ys.now) e m
+
+-- two forms that say the same of two texts
+abbrev pub Same : Form → List ℕ → Form → List ℕ → Type 0
+Same G xs H ys = (zs : List ℕ) → G xs zs ↔ H ys zs
+
+pub ends_as : (G H : Form) (xs ys zs : List ℕ) → Same H xs G ys → Ends G ys zs → Ends H xs zs
+ends_as G H xs ys zs same g = record { is = (same zs).1 g.is; only = λ ws h. g.only ws ((same ws).0 h) }
+
+pub reads_as : (G H : Form) (xs ys : List ℕ) (r : Option (Bor (List ℕ))) → Same H xs G ys → Reads G ys r → Reads H xs r
+reads_as G H xs ys None same g = λ zs h. g zs ((same zs).0 h)
+reads_as G H xs ys (Some rest) same g = ends_as G H xs ys rest.now same g
+
+-- the same in two steps
+pub onward : (H : Form) (xs ys zs : List ℕ) → Same H xs H ys → Same H ys H zs → Same H xs H zs
+onward H xs ys zs p q ws = (λ f. (q ws).0 ((p ws).0 f), λ f. (p ws).1 ((q ws).1 f))
+
+-- where the form H begins with a thing of the form G, the rest of H is read behind it
+pub step : (G H : Form) (xs ys : List ℕ) → Ends G xs ys → ((zs : List ℕ) → H xs zs → Then G H xs zs) → ((zs : List ℕ) → Then G H xs zs → H xs zs) → Same H xs H ys
+step G H xs ys e split join zs = (λ f. let p = split zs f in subst (λ l. H l zs) (e.only p.0 p.1) p.2, λ f. join zs (ys, e.is, f))
 
 -- runs
-pub span_stop : (p : ℕ → Bool) (ys : List ℕ) → begins p ys ≡ false → Span p ys ys
-span_stop p ys s = record { run = []; all = tt; is = refl; stops = s }
-
-pub begins_at : (p : ℕ → Bool) (text : List ℕ) (i : ℕ) → i < length text → begins p (drop i text) ≡ p (get_or text i 0)
-begins_at p text i h = ap (begins p) (drop_more text i 0 h)
-
-pub begins_past : (p : ℕ → Bool) (text : List ℕ) (i : ℕ) → length text ≤ i → begins p (drop i text) ≡ false
-begins_past p text i h = ap (begins p) (drop_all i text h)
-
-pub begins_within : (p : ℕ → Bool) (text : List ℕ) (i : ℕ) → begins p (drop i text) ≡ true → i < length text
-begins_within p text i h = ⊎_elim (λ l. l) (λ l. absurd (both_ways _ (begins_past p text i l) h)) (cases_lt i (length text))
-
-pub span_more : (p : ℕ → Bool) (text : List ℕ) (i : ℕ) → begins p (drop i text) ≡ true → (ys : List ℕ) → Span p (drop (i + 1) text) ys → Span p (drop i text) ys
-span_more p text i t ys s =
-    let h = begins_within p text i t in
-    record { run = get_or text i 0 ∷ s.run; all = (sym (begins_at p text i h) ∙ t, s.all); is = drop_more text i 0 h ∙ ap (λ l. get_or text i 0 ∷ l) s.is; stops = s.stops }
-
 pub same_run : (p : ℕ → Bool) (r s ys zs : List ℕ) → AllOf p r → AllOf p s → begins p ys ≡ false → begins p zs ≡ false → r ++ ys ≡ s ++ zs → zs ≡ ys
 same_run p [] [] ys zs a b c d e = sym e
 same_run p [] (x ∷ s) ys zs a b c d e = let no_more : p x ≡ false = sym (ap (begins p) e) ∙ c in absurd (both_ways (p x) no_more b.0)
 same_run p (x ∷ r) [] ys zs a b c d e = let no_more : p x ≡ false = ap (begins p) e ∙ d in absurd (both_ways (p x) no_more a.0)
 same_run p (x ∷ r) (y ∷ s) ys zs a b c d e = same_run p r s ys zs a.1 b.1 c d (tails e)
 
+-- a run of bytes of the kind p ends where the first other byte stands
+pub run_unique : (p : ℕ → Bool) (r s ys zs : List ℕ) → AllOf p r → AllOf p s → begins p ys ≡ false → begins p zs ≡ false → r ++ ys ≡ s ++ zs → (r ≡ s) × (ys ≡ zs)
+run_unique p r s ys zs a b c d e = let same = same_run p r s ys zs a b c d e in (append_cancel_right r s ys (e ∙ ap (λ l. s ++ l) same), sym same)
+
 pub span_only : (p : ℕ → Bool) (xs ys zs : List ℕ) → Span p xs ys → Span p xs zs → zs ≡ ys
 span_only p xs ys zs s t = same_run p s.run t.run ys zs s.all t.all s.stops t.stops (sym s.is ∙ t.is)
 
--- literals
-pub literal_more : (text bytes : List ℕ) (a i : ℕ) → i < length bytes → a < length text → get_or text a 0 ≡ get_or bytes i 0 → (ys : List ℕ) → Literal (drop i bytes) (drop a text) ys ↔ Literal (drop (i + 1) bytes) (drop (a + 1) text) ys
-literal_more text bytes a i h k e ys =
-    let x = drop_more bytes i 0 h in
-    let y = drop_more text a 0 k in (
-      λ l. tails (sym y ∙ l ∙ ap (λ z. z ++ ys) x),
-      λ l. y ∙ (λ j. e j ∷ l j) ∙ sym (ap (λ z. z ++ ys) x),
+pub stops_here : (p : ℕ → Bool) (ys : List ℕ) → ((x : ℕ) (rest : List ℕ) → ys ≡ x ∷ rest → p x ≡ true → ⊥) → begins p ys ≡ false
+stops_here p [] s = refl
+stops_here p (y ∷ ys) s = go (p y) refl
+  where
+    go : (b : Bool) → p y ≡ b → p y ≡ false
+    go true e = absurd (s y ys refl e)
+    go false e = e
+
+-- the longest run that a class of bytes was split off
+pub longest : (p : ℕ → Bool) (xs run ys : List ℕ) → LongestRun (λ b. p b ≡ true) xs run ys → Span p xs ys
+longest p xs run ys l = record { run = run; all = l.all; is = l.whole; stops = stops_here p ys l.stops }
+
+pub longest_ends : (p : ℕ → Bool) (xs run ys : List ℕ) → LongestRun (λ b. p b ≡ true) xs run ys → Ends (Span p) xs ys
+longest_ends p xs run ys l = let s = longest p xs run ys l in record { is = s; only = λ zs t. span_only p xs ys zs s t }
+
+-- a run goes on in front of one
+pub span_more : (p : ℕ → Bool) (front xs ys : List ℕ) → AllOf p front → Span p xs ys → Span p (front ++ xs) ys
+span_more p front xs ys a s = record {
+  run = front ++ s.run;
+  all = All-append (λ b. p b ≡ true) front s.run a s.all;
+  is = ap (λ l. front ++ l) s.is ∙ sym (append_assoc front s.run ys);
+  stops = s.stops;
+}
+
+-- every byte is of the kind p, as a fold over all of them tells
+pub all_told : (p : ℕ → Bool) (a : Bool) (bs : List ℕ) → Decides (fold (λ t b. t && p b) a bs) ((a ≡ true) × AllOf p bs)
+all_told p a [] = (λ e. (e, tt), λ h. h.0)
+all_told p a (b ∷ bs) =
+    let more = all_told p (a && p b) bs in (
+      λ e.
+          let h = more.0 e in
+          let both = and_parts a (p b) h.0 in
+          (both.0, (both.1, h.1)),
+      λ h. more.1 (and_from a (p b) h.0 h.1.0, h.1.1),
     )
 
-pub literal_other : (text bytes : List ℕ) (a i : ℕ) → i < length bytes → a < length text → (get_or text a 0 ≡ get_or bytes i 0 → ⊥) → (ys : List ℕ) → Literal (drop i bytes) (drop a text) ys → ⊥
-literal_other text bytes a i h k ne ys l = ne (heads (sym (drop_more text a 0 k) ∙ l ∙ ap (λ z. z ++ ys) (drop_more bytes i 0 h)))
+-- literals: what `strip_prefix` says of one
+pub literal_reads : (bytes xs : List ℕ) (r : Option (Bor (List ℕ))) → MatchOption r (pointwise eqb (take (length bytes) xs) bytes ≡ false) (λ ys. (pointwise eqb (take (length bytes) xs) bytes ≡ true) × (ys.now ≡ drop (length bytes) xs) × (length ys.now + length bytes ≡ length xs)) → Reads (Literal bytes) xs r
+literal_reads bytes xs r cases = go r (strip_prefix_is Decides-eqb xs bytes r cases)
+  where
+    go : (r : Option (Bor (List ℕ))) → MatchOption r ((ys : List ℕ) → xs ≢ bytes ++ ys) (λ ys. xs ≡ bytes ++ ys.now) → Reads (Literal bytes) xs r
+    go None none = none
+    go (Some ys) e = record { is = e; only = λ zs f. append_cancel_left bytes zs ys.now (sym f ∙ e) }
 
-pub literal_past : (text bytes : List ℕ) (a i : ℕ) → i < length bytes → length text ≤ a → (ys : List ℕ) → Literal (drop i bytes) (drop a text) ys → ⊥
-literal_past text bytes a i h k ys l = no_cons (sym (drop_all a text k) ∙ l ∙ ap (λ z. z ++ ys) (drop_more bytes i 0 h))
+-- what holds of each of the elements up to the end holds of all
+pub all_taken : (P : Bor (List ℕ) → Type 0) (items : List (Bor (List ℕ))) (n : ℕ) → length items ≤ n → AllByRecursion P (take n items) → AllByRecursion P items
+all_taken P items n h a = subst (AllByRecursion P) (take_all n items h) a
 
-pub span_ends : (p : ℕ → Bool) (text : List ℕ) (a i : ℕ) → a ≤ i → i ≤ length text → Span p (drop a text) (drop i text) → Ends (Span p) text a i
-span_ends p text a i h k s = record { after = h; within = k; is = s; only = λ ys t. span_only p _ _ ys s t }
-
-pub literal_end : (text bytes : List ℕ) (a i : ℕ) → length bytes ≤ i → (ys : List ℕ) → Literal (drop i bytes) (drop a text) ys ↔ (ys ≡ drop a text)
-literal_end text bytes a i h ys =
-    let x = drop_all i bytes h in
-    (λ l. sym (l ∙ ap (λ z. z ++ ys) x), λ l. sym l ∙ sym (ap (λ z. z ++ ys) x))
-
-pub begins_byte : (b : ℕ) (text : List ℕ) (i : ℕ) → begins (λ x. eqb x b) (drop i text) ≡ true → drop i text ≡ b ∷ drop (i + 1) text
-begins_byte b text i t =
-    let h = begins_within _ text i t in
-    let e = eqb-true _ _ (sym (begins_at (λ x. eqb x b) text i h) ∙ t) in
-    drop_more text i 0 h ∙ ap (λ x. x ∷ drop (i + 1) text) e
-
-pub byte_none : (b : ℕ) (xs ys : List ℕ) → begins (λ x. eqb x b) xs ≡ false → xs ≡ b ∷ ys → ⊥
-byte_none b xs ys f e = both_ways (eqb b b) (sym (ap (begins (λ x. eqb x b)) e) ∙ f) (eq-eqb b b refl)
-
-pub byte_ends : (b : ℕ) (text : List ℕ) (i : ℕ) → begins (λ x. eqb x b) (drop i text) ≡ true → Ends (Literal (b ∷ [])) text i (i + 1)
-byte_ends b text i t =
-    let h = begins_within _ text i t in
-    let e = begins_byte b text i t in
-    record { after = omega arith; within = omega arith; is = e; only = λ ys l. tails (sym l ∙ e) }
-
-pub span_block : (p : ℕ → Bool) (text : List ℕ) (i j : ℕ) → i ≤ j → AllOf p (take (j - i) (drop i text)) → (ys : List ℕ) → Span p (drop j text) ys → Span p (drop i text) ys
-span_block p text i j h a ys s =
-    let front = take (j - i) (drop i text) in
-    let same : i + (j - i) ≡ j = omega arith in
-    let rest = drop-drop (j - i) i text ∙ ap (λ n. drop n text) same in
-    record {
-      run = front ++ s.run;
-      all = All-append (λ b. p b ≡ true) front s.run a s.all;
-      is = sym (take-append-drop (j - i) (drop i text)) ∙ ap (λ l. front ++ l) (rest ∙ s.is) ∙ sym (append_assoc front s.run ys);
-      stops = s.stops;
-    }
-
--- what all of one element more are, the elements before it are, and it is
-pub all_less : {X : Type 0} (P : X → Type 0) (xs : List X) (i : ℕ) (d : X) → i < length xs → AllByRecursion P (take (i + 1) xs) → AllByRecursion P (take i xs) × P (get_or xs i d)
-all_less P xs i d h a =
-    let l : i < length (take (i + 1) xs) = omega (arith, length-take (i + 1) xs) in
-    (subst (AllByRecursion P) (take-take i (i + 1) xs (omega arith)) (All-take P i (take (i + 1) xs) a), subst P (get_or-take (i + 1) xs i d (omega arith)) (All-get_or P (take (i + 1) xs) i d l a))
+-- a list is its first byte and the others, as a slice pattern cuts it
+pub first_more : (xs : List ℕ) → 1 ≤ length xs → xs ≡ get_or xs 0 0 ∷ take (length xs - 1) (drop 1 xs)
+first_more [] h = absurd (omega (arith, h))
+first_more (x ∷ xs) h = grind (arith, common_steps)

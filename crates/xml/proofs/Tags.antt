@@ -1,12 +1,13 @@
 -- What stands in a tag after its name.
-use Rattle.std.proofs.Common.{◌≡◌, ℕ, ◌<◌, Bool, true, false, ◌||◌, eqb, ◌⊎◌, ◌↔◌, List, [], ◌∷◌, ◌++◌, length, drop, sym, refl, ap, ◌∙◌, subst, inl, inr, ⊎_elim, arith, length-append, length-drop}
+use Rattle.std.proofs.Common.{◌≡◌, ℕ, ◌<◌, Bool, true, false, ◌⊎◌, List, [], ◌∷◌, ◌++◌, length, sym, refl, ap, ◌∙◌, subst, inl, inr, ⊎_elim, arith}
 use Rattle.std.specs.List.{AllByRecursion}
-use Rattle.std.proofs.lemmas.Bool.{both_ways, eqb-true, or_cases}
-use Rattle.xml.specs.Bytes.{AllOf, white, name_start_byte, attribute_byte}
-use Rattle.xml.specs.Reads.{tag_end, begins, Span, Ends}
+use Rattle.std.proofs.lemmas.Bool.{both_ways}
+use Rattle.classes.specs.Runs.{LongestRun}
+use Rattle.xml.specs.Bytes.{AllOf, white, name_start_byte, name_byte, attribute_byte, tag_end}
+use Rattle.xml.specs.Reads.{begins, Span, Ends, Missing}
 use Rattle.xml.specs.Grammar.{IsName, Attribute, attribute_text, GoodAttribute, attributes_text}
 use Rattle.xml.specs.Forms.{AttributeForm, TailForm}
-use Rattle.xml.proofs.Steps.{span_only}
+use Rattle.xml.proofs.Steps.{Same, longest, span_only}
 
 -- the classes share no byte
 pub start_not_white : (b : ℕ) → name_start_byte b ≡ true → white b ≡ false
@@ -15,17 +16,19 @@ start_not_white b h = grind arith
 pub end_not_white : (b : ℕ) → tag_end b ≡ true → white b ≡ false
 end_not_white b h = grind arith
 
+pub end_not_name : (b : ℕ) → tag_end b ≡ true → name_byte b ≡ false
+end_not_name b h =
+    let two : (b ≡ 62) ⊎ (b ≡ 47) = grind arith in
+    ⊎_elim (λ e. ap name_byte e) (λ e. ap name_byte e) two
+
 pub start_not_end : (b : ℕ) → name_start_byte b ≡ true → tag_end b ≡ false
 start_not_end b h = grind arith
 
 -- white space is four bytes
 pub white_not : (p : ℕ → Bool) → p 32 ≡ false → p 9 ≡ false → p 10 ≡ false → p 13 ≡ false → (b : ℕ) → white b ≡ true → p b ≡ false
 white_not p h₁ h₂ h₃ h₄ b w =
-    ⊎_elim (λ e. ap p (eqb-true b 32 e) ∙ h₁)
-    (λ w₂. ⊎_elim (λ e. ap p (eqb-true b 9 e) ∙ h₂)
-    (λ w₃. ⊎_elim (λ e. ap p (eqb-true b 10 e) ∙ h₃) (λ e. ap p (eqb-true b 13 e) ∙ h₄) (or_cases (eqb b 10) (eqb b 13) w₃))
-    (or_cases (eqb b 9) (eqb b 10 || eqb b 13) w₂))
-    (or_cases (eqb b 32) (eqb b 9 || (eqb b 10 || eqb b 13)) w)
+    let four : (b ≡ 32) ⊎ ((b ≡ 9) ⊎ ((b ≡ 10) ⊎ (b ≡ 13))) = grind arith in
+    ⊎_elim (λ e. ap p e ∙ h₁) (λ r. ⊎_elim (λ e. ap p e ∙ h₂) (λ r. ⊎_elim (λ e. ap p e ∙ h₃) (λ e. ap p e ∙ h₄) r) r) four
 
 -- a list that begins with one kind begins with no kind apart from it
 pub begins_not : (p q : ℕ → Bool) → ((b : ℕ) → p b ≡ true → q b ≡ false) → (xs : List ℕ) → begins p xs ≡ true → begins q xs ≡ false
@@ -64,7 +67,7 @@ body_form a g rest =
     let last = a.quote ∷ (a.value ++ (a.quote ∷ rest)) in
     let value = a.after ++ last in (
       a.before ++ (61 ∷ value),
-      record { name = a.name; good = g.name; is = refl; stops = past_white attribute_byte (white_not attribute_byte refl refl refl refl) a.before (61 ∷ value) g.before refl },
+      (a.name, record { good = g.name; is = refl; stops = past_white attribute_byte (white_not attribute_byte refl refl refl refl) a.before (61 ∷ value) g.before refl }),
       (
         61 ∷ value,
         record { run = a.before; all = g.before; is = refl; stops = refl },
@@ -87,9 +90,9 @@ form_body gap xs ys h all f =
     let f2 = f1.2 in
     let f3 = f2.2 in
     let v = f3.2 in (
-      record { gap = gap; name = n.name; before = f1.1.run; after = f3.1.run; quote = v.0; value = v.2.value },
-      record { apart = h; gap = all; name = n.good; before = f1.1.all; after = f3.1.all; quote = v.1; value = v.2.good },
-      ap (λ l. gap ++ l) (n.is ∙ ap (λ l. n.name ++ l) (f1.1.is ∙ ap (λ l. f1.1.run ++ l) (f2.1 ∙ ap (λ l. 61 ∷ l) (f3.1.is ∙ ap (λ l. f3.1.run ++ l) v.2.is)))),
+      record { gap = gap; name = n.0; before = f1.1.run; after = f3.1.run; quote = v.0; value = v.2.value },
+      record { apart = h; gap = all; name = n.1.good; before = f1.1.all; after = f3.1.all; quote = v.1; value = v.2.good },
+      ap (λ l. gap ++ l) (n.1.is ∙ ap (λ l. n.0 ++ l) (f1.1.is ∙ ap (λ l. f1.1.run ++ l) (f2.1 ∙ ap (λ l. 61 ∷ l) (f3.1.is ∙ ap (λ l. f3.1.run ++ l) v.2.is)))),
     )
 
 -- the white space that begins the rest of a tag, and then the tag's end
@@ -128,16 +131,26 @@ tail_only xs zs ys s t f = ⊎_elim (λ e. e) (λ p. absurd (both_ways _ p.1 t))
 pub tail_more : (xs zs ys : List ℕ) → Span white xs zs → begins tag_end zs ≡ false → TailForm xs ys → First xs zs ys
 tail_more xs zs ys s t f = ⊎_elim (λ e. absurd (both_ways _ t (sym (ap (begins tag_end) e) ∙ f.ends))) (λ p. p.0) (tail_first xs zs ys s f)
 
-pub tail_step : (text : List ℕ) (i next j : ℕ) → i < next → Ends (Span white) text i next → begins tag_end (drop next text) ≡ false → Ends AttributeForm text next j → (ys : List ℕ) → TailForm (drop i text) ys ↔ TailForm (drop j text) ys
-tail_step text i next j h s t a ys = (to, fro)
+-- white space, and then the tag's end
+pub tail_ends : (xs zs : List ℕ) → Span white xs zs → begins tag_end zs ≡ true → Ends TailForm xs zs
+tail_ends xs zs s t = record { is = tail_stop xs zs s t; only = λ ys f. tail_only xs zs ys s t f }
+
+-- an attribute stands apart from what comes before it
+pub tail_none : (xs run zs : List ℕ) → LongestRun (λ b. white b ≡ true) xs run zs → length run ≡ 0 → begins tag_end zs ≡ false → Missing TailForm xs
+tail_none xs run zs l none t ys f = both_ways _ (go run l.whole none) (tail_more xs zs ys s t f).apart
   where
-    to : TailForm (drop i text) ys → TailForm (drop j text) ys
-    to f = let first = tail_more _ _ ys s.is t f in subst (λ l. TailForm l ys) (a.only first.rest first.form) first.tail
+    s : Span white xs zs
+    s = longest white xs run zs l
 
-    some : 0 < length s.is.run
-    some = let w = s.within in let e = ap length s.is.is ∙ length-append s.is.run (drop next text) in omega (arith, e, length-drop i text, length-drop next text)
+    go : (run : List ℕ) → xs ≡ run ++ zs → length run ≡ 0 → begins white xs ≡ false
+    go [] e h = ap (begins white) e ∙ s.stops
+    go (b ∷ run) e h = absurd (omega (arith, h))
 
-    fro : TailForm (drop j text) ys → TailForm (drop i text) ys
-    fro f =
-        let b = form_body s.is.run _ _ some s.is.all a.is in
-        record { attributes = b.0 ∷ f.attributes; space = f.space; good = (b.1, f.good); white = f.white; is = s.is.is ∙ b.2 ∙ ap (attribute_text b.0) f.is; ends = f.ends }
+-- behind white space and an attribute the rest of the tag goes on
+pub tail_step : (xs run zs ys : List ℕ) → LongestRun (λ b. white b ≡ true) xs run zs → 0 < length run → begins tag_end zs ≡ false → Ends AttributeForm zs ys → Same TailForm xs TailForm ys
+tail_step xs run zs ys l some t a ws = (
+  λ f. let first = tail_more xs zs ws (longest white xs run zs l) t f in subst (λ l. TailForm l ws) (a.only first.rest first.form) first.tail,
+  λ f.
+      let b = form_body run zs ys some l.all a.is in
+      record { attributes = b.0 ∷ f.attributes; space = f.space; good = (b.1, f.good); white = f.white; is = l.whole ∙ b.2 ∙ ap (attribute_text b.0) f.is; ends = f.ends },
+)

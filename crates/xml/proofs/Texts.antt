@@ -1,6 +1,6 @@
 -- What follows a text may come in two parts, and a tree may stand where a deeper one may.
-use Rattle.std.proofs.Common.{◌≡◌, ℕ, ◌-◌, ◌≤◌, List, [], ◌∷◌, ◌++◌, refl, ap, ◌∙◌, append_assoc, arith}
-use Rattle.xml.specs.Grammar.{Attribute, attribute_text, attributes_text, Tag, tag_text, Entity, lt, gt, amp, quot, apos, entity_text, comment_text, Tree, empty, full, Content, nothing, byte, reference, comment, child, tree_text, content_text, GoodTree, GoodContent}
+use Rattle.std.proofs.Common.{◌≡◌, ℕ, ◌+◌, ◌-◌, ◌≤◌, List, [], ◌∷◌, ◌++◌, length, refl, ap, ◌∙◌, append_assoc, arith, length-append}
+use Rattle.xml.specs.Grammar.{Attribute, attribute_text, attributes_text, Tag, tag_text, Entity, entity_text, comment_text, Tree, empty, full, Content, nothing, byte, reference, comment, child, tree_text, content_text, GoodTree, GoodContent}
 
 -- an attribute's text, and then xs and ys
 attribute_append : (a : Attribute) (xs ys : List ℕ) → attribute_text a (xs ++ ys) ≡ attribute_text a xs ++ ys
@@ -15,13 +15,12 @@ attributes_append (a ∷ as') xs ys = ap (attribute_text a) (attributes_append a
 tag_append : (t : Tag) (xs ys : List ℕ) → tag_text t (xs ++ ys) ≡ tag_text t xs ++ ys
 tag_append t xs ys = simp (append_assoc, ← attributes_append)
 
+pub length-tag : (t : Tag) (xs : List ℕ) → length (tag_text t xs) ≡ length (tag_text t []) + length xs
+length-tag t xs = ap length (tag_append t [] xs) ∙ length-append (tag_text t []) xs
+
 -- a reference
 entity_append : (e : Entity) (xs ys : List ℕ) → entity_text e (xs ++ ys) ≡ entity_text e xs ++ ys
-entity_append lt xs ys = refl
-entity_append gt xs ys = refl
-entity_append amp xs ys = refl
-entity_append quot xs ys = refl
-entity_append apos xs ys = refl
+entity_append e xs ys = simp append_assoc
 
 -- a comment
 comment_append : (body xs ys : List ℕ) → comment_text body (xs ++ ys) ≡ comment_text body xs ++ ys

@@ -3,24 +3,18 @@
 use Rattle.std.proofs.Common.{◌≡◌, ℕ, ◌-◌, Bool, true, false, cond, eqb, ◌⊎◌, List, [], ◌∷◌, ◌++◌, get_or, codes, sym, refl, ap, ◌∙◌, subst, inl, ⊎_elim, arith}
 use Rattle.std.specs.List.{AllByRecursion}
 use Rattle.std.proofs.lemmas.List.{append_cancel_left, append_cancel_right}
-use Rattle.std.proofs.lemmas.Bool.{both_ways, eqb-true, or_cases}
-use Rattle.xml.specs.declared.lookahead.Lookahead.{Lookahead}
-use Rattle.xml.specs.declared.lookahead.Lookahead.TheVariants.{Text, Reference, Comment, EndTag, End, Other}
-use Rattle.xml.specs.Bytes.{AllOf, white, name_start_byte, name_byte, attribute_byte, value_byte}
+use Rattle.std.proofs.lemmas.Bool.{both_ways}
+use Rattle.xml.specs.Bytes.{AllOf, white, name_start_byte, name_byte, attribute_byte, value_byte, tag_end}
 use Rattle.xml.specs.Grammar.{most_depth, IsName, Attribute, attribute_text, GoodAttribute, attributes_text, Tag, tag_text, GoodTag, Entity, lt, gt, amp, quot, apos, entity_text, NoPair, comment_text, GoodComment, Tree, empty, full, Content, nothing, byte, reference, comment, child, tree_text, content_text, GoodTree, GoodContent, Misc, done, space, note, misc_text, GoodMisc, Declaration, absent, present, declaration_text, GoodDeclaration, OneTree}
-use Rattle.xml.specs.Ahead.{ahead, Stops}
-use Rattle.xml.specs.Reads.{tag_end, begins, Begins}
-use Rattle.xml.proofs.Steps.{tails, heads, same_run}
+use Rattle.xml.specs.Ahead.{Next, at_text, at_reference, at_comment, at_end_tag, at_end, at_other, ahead, Stops}
+use Rattle.xml.specs.Reads.{begins, Begins}
+use Rattle.xml.proofs.Steps.{tails, heads, run_unique}
 use Rattle.xml.proofs.Forms.{quoted_stops}
-use Rattle.xml.proofs.Tags.{start_not_white, end_not_white, start_not_end, white_not, begins_not, begins_name, past_white, begins_gap, begins_quote, sign}
+use Rattle.xml.proofs.Tags.{start_not_white, end_not_white, end_not_name, start_not_end, white_not, begins_not, begins_name, past_white, begins_gap, begins_quote, sign}
 use Rattle.xml.proofs.Comments.{no_pair_tail, pair_here}
 use Rattle.xml.proofs.Shapes.{text_ahead, white_ahead, entity_ahead, tree_opens, tree_ahead, tree_stops, Shape, shape_at}
 
--- a run of bytes of the kind p ends where the first other byte stands
-pub run_unique : (p : ℕ → Bool) (r s ys zs : List ℕ) → AllOf p r → AllOf p s → begins p ys ≡ false → begins p zs ≡ false → r ++ ys ≡ s ++ zs → (r ≡ s) × (ys ≡ zs)
-run_unique p r s ys zs a b c d e = let same = same_run p r s ys zs a b c d e in (append_cancel_right r s ys (e ∙ ap (λ l. s ++ l) same), sym same)
-
--- and so a name
+-- a name is its own
 pub name_unique : (p : ℕ → Bool) (v w ys zs : List ℕ) → IsName p v → IsName p w → begins p ys ≡ false → begins p zs ≡ false → v ++ ys ≡ w ++ zs → (v ≡ w) × (ys ≡ zs)
 name_unique p [] w ys zs g h c d e = absurd g
 name_unique p (x ∷ v) [] ys zs g h c d e = absurd h
@@ -76,9 +70,6 @@ module _ (v w xs ys : List ℕ) (wide : AllOf white v) (broad : AllOf white w) (
 pub tag_stops : (t : Tag) → GoodTag t → (rest : List ℕ) → begins tag_end rest ≡ true → begins name_byte (attributes_text t.attributes (t.space ++ rest)) ≡ false
 tag_stops t g rest s = go t.attributes g.attributes
   where
-    end_not_name : (b : ℕ) → tag_end b ≡ true → name_byte b ≡ false
-    end_not_name b h = ⊎_elim (λ e. ap name_byte (eqb-true b 62 e)) (λ e. ap name_byte (eqb-true b 47 e)) (or_cases (eqb b 62) (eqb b 47) h)
-
     white_not_name : (b : ℕ) → white b ≡ true → name_byte b ≡ false
     white_not_name = white_not name_byte refl refl refl refl
 
@@ -133,7 +124,7 @@ comment_unique v w xs ys g h e = let q = pair_unique 45 45 v w (62 ∷ xs) (62 �
 
 -- a content ends: an end tag follows, or nothing
 abbrev pub Ended : List ℕ → Type 0
-Ended xs = (ahead xs ≡ EndTag) ⊎ (ahead xs ≡ End)
+Ended xs = (ahead xs ≡ at_end_tag) ⊎ (ahead xs ≡ at_end)
 
 -- where it does, no piece begins
 pub ended_stops : (xs : List ℕ) → Ended xs → Stops (ahead xs)
@@ -141,20 +132,19 @@ ended_stops xs s = ⊎_elim (λ l. subst Stops (sym l) tt) (λ l. subst Stops (s
 
 -- a content whose text begins where a content ends is nothing
 pub nothing_at : (k : Content) (d : ℕ) → GoodContent k d → (rest xs : List ℕ) → Ended rest → xs ≡ content_text k rest → Ended xs → k ≡ nothing
-nothing_at k d g rest xs s e t = ⊎_elim (at EndTag) (at End) t
+nothing_at k d g rest xs s e t = ⊎_elim (at at_end_tag) (at at_end) t
   where
-    at : (l : Lookahead) → ahead xs ≡ l → Shape k l
+    at : (l : Next) → ahead xs ≡ l → Shape k l
     at l = shape_at k d g rest xs l (ended_stops rest s) e
 
 -- a content that begins with neither text, reference nor comment, and does not end, begins with an element
-pub child_at : (k : Content) (d : ℕ) → GoodContent k d → (rest xs : List ℕ) → Ended rest → xs ≡ content_text k rest → ahead xs ≡ Other → (u : Tree) × (m : Content) × (k ≡ child u m)
-child_at k d g rest xs s e l = ⊎_elim (λ n. absurd (no n)) (λ c. c) (shape_at k d g rest xs Other (ended_stops rest s) e l)
+pub child_at : (k : Content) (d : ℕ) → GoodContent k d → (rest xs : List ℕ) → Ended rest → xs ≡ content_text k rest → ahead xs ≡ at_other → (u : Tree) × (m : Content) × (k ≡ child u m)
+child_at k d g rest xs s e l = ⊎_elim (λ n. absurd (no n)) (λ c. c) (shape_at k d g rest xs at_other (ended_stops rest s) e l)
   where
     no : k ≡ nothing → ⊥
     no n =
-        let same : ahead rest ≡ Other = ap (λ z. ahead (content_text z rest)) (sym n) ∙ sym (ap ahead e) ∙ l in
-        let z : ◌≡◌ {A = ℕ} 0 1 = ⊎_elim (λ m. cc) (λ m. cc) s in
-        omega arith
+        let same : ahead rest ≡ at_other = ap (λ z. ahead (content_text z rest)) (sym n) ∙ sym (ap ahead e) ∙ l in
+        ⊎_elim (λ m. cc) (λ m. cc) s
 
 -- xs is the text of the content c, and then ys
 abbrev Stands : ℕ → List ℕ → List ℕ → Content → Type 0
@@ -178,18 +168,18 @@ mutual
       let is = nothing_at k e h ys xs t p s in
       (sym is, p ∙ ap (λ z. content_text z ys) is)
   content_unique (byte b c) k d e g h xs ys s t p =
-      let is = shape_at k e h ys _ Text (ended_stops ys t) p (text_ahead b (content_text c xs) g.0) in
+      let is = shape_at k e h ys _ at_text (ended_stops ys t) p (text_ahead b (content_text c xs) g.0) in
       let on = subst (Stands e (content_text (byte b c) xs) ys) is.2 (h, p) in
       let more = content_unique c is.1 d e g.1 on.0.1 xs ys s t (tails on.1) in
       ((λ i. byte (heads on.1 i) (more.0 i)) ∙ sym is.2, more.1)
   content_unique (reference n c) k d e g h xs ys s t p =
-      let is = shape_at k e h ys _ Reference (ended_stops ys t) p (entity_ahead n (content_text c xs)) in
+      let is = shape_at k e h ys _ at_reference (ended_stops ys t) p (entity_ahead n (content_text c xs)) in
       let on = subst (Stands e (content_text (reference n c) xs) ys) is.2 (h, p) in
       let one = entity_unique n is.0 _ _ on.1 in
       let more = content_unique c is.1 d e g on.0 xs ys s t one.1 in
       ((λ i. reference (one.0 i) (more.0 i)) ∙ sym is.2, more.1)
   content_unique (comment body c) k d e g h xs ys s t p =
-      let is = shape_at k e h ys _ Comment (ended_stops ys t) p refl in
+      let is = shape_at k e h ys _ at_comment (ended_stops ys t) p refl in
       let on = subst (Stands e (content_text (comment body c) xs) ys) is.2 (h, p) in
       let one = comment_unique body is.0 _ _ g.0 on.0.0 on.1 in
       let more = content_unique c is.1 d e g.1 on.0.1 xs ys s t one.1 in

@@ -1,22 +1,21 @@
 -- The walk over child elements, as laws of the grammar.
-use Rattle.std.proofs.Common.{◌≡◌, ℕ, ◌+◌, ◌≤◌, true, false, ◌⊎◌, List, [], ◌∷◌, drop, Some, None, Option, sym, refl, ap, ◌∙◌, subst, inl, inr, ⊎_elim, arith}
+use Rattle.std.proofs.Common.{◌≡◌, ℕ, ◌+◌, ◌≤◌, true, false, ◌⊎◌, List, [], ◌∷◌, length, ◌<◌, Some, None, Option, IfSome, sym, refl, ap, ◌∙◌, subst, inl, inr, ⊎_elim, arith}
 use Rattle.std.specs.Option.{option_map}
 use Rattle.std.proofs.lemmas.Bool.{both_ways}
-use Rattle.xml.specs.declared.element.Parts.{Parts}
-use Rattle.xml.specs.declared.lookahead.Lookahead.TheVariants.{Text, Reference, Comment, Other}
 use Rattle.xml.specs.declared.walk.Child.{Child}
 use Rattle.xml.specs.Bytes.{AllOf, text_byte}
-use Rattle.xml.specs.Grammar.{most_depth, Entity, lt, gt, amp, quot, apos, entity_text, comment_text, Tree, empty, full, Content, nothing, byte, reference, comment, child, tree_text, content_text, GoodTree, GoodContent}
-use Rattle.xml.specs.Ahead.{ahead, Stops}
+use Rattle.xml.specs.Grammar.{most_depth, Entity, entity_text, comment_text, Tree, empty, full, Content, nothing, byte, reference, comment, child, tree_text, content_text, GoodTree, GoodContent}
+use Rattle.xml.specs.Ahead.{at_text, at_reference, at_comment, at_other, ahead, Stops}
 use Rattle.xml.specs.Walks.{name_of, content_of, children, plain, Holds, ElementIs, FirstChild, NoChild, OnlyFirst, FirstAndRest, FirstAnswer, FirstOf, TextAnswer}
 use Rattle.xml.specs.Reads.{Ends, Missing}
-use Rattle.xml.specs.Forms.{SkipForm, ElementForm}
-use Rattle.xml.specs.Parts.{StandsAt, between}
-use Rattle.xml.proofs.Steps.{tails, no_cons}
+use Rattle.xml.specs.Forms.{SkipForm}
+use Rattle.xml.specs.Elements.{ElementAnswer}
+use Rattle.xml.proofs.Steps.{tails, no_cons, cases_none}
 use Rattle.xml.proofs.Shapes.{shape_at, text_ahead, entity_ahead, tree_opens, tree_ahead, tree_stops}
 use Rattle.xml.proofs.Unique.{entity_unique, comment_unique, tree_unique}
 use Rattle.xml.proofs.Texts.{content_deeper}
-use Rattle.xml.proofs.Contents.{no_tree}
+use Rattle.xml.proofs.Contents.{no_tree, skip_within}
+use Rattle.xml.proofs.Elements.{element_forward}
 
 -- a content without depth has no children
 flat_children : (c : Content) → GoodContent c 0 → children c ≡ []
@@ -45,7 +44,7 @@ module _ (t : Tree) (e : ℕ) (gt : GoodTree t e) (rest end : List ℕ) (stop : 
   met_at c k s m = ⊎_elim (λ p. inl (p.0, s ∙ p.1, p.2, p.3)) (λ p. inr (s ∙ p.0, p.1)) m
 
   pub meet : (f c : Content) → GoodContent f 0 → GoodContent c d → content_text c end ≡ content_text f (tree_text t rest) → Met c
-  meet nothing c g h i = ⊎_elim none some (shape_at c d h end (tree_text t rest) Other stop (sym i) (tree_ahead t e gt rest))
+  meet nothing c g h i = ⊎_elim none some (shape_at c d h end (tree_text t rest) at_other stop (sym i) (tree_ahead t e gt rest))
     where
       none : c ≡ nothing → Met c
       none p = inr (ap children p, ap (λ x. content_text x end) (sym p) ∙ i)
@@ -56,15 +55,15 @@ module _ (t : Tree) (e : ℕ) (gt : GoodTree t e) (rest end : List ℕ) (stop : 
           let same = tree_unique p.0 t d e q.0 gt (content_text p.1 end) rest (ap (λ x. content_text x end) (sym p.2) ∙ i) in
           inl (p.1, ap children p.2 ∙ ap (λ u. u ∷ children p.1) same.0, q.1, same.1)
   meet (byte b f) c g h i =
-      let s = shape_at c d h end (b ∷ content_text f (tree_text t rest)) Text stop (sym i) (text_ahead b (content_text f (tree_text t rest)) g.0) in
+      let s = shape_at c d h end (b ∷ content_text f (tree_text t rest)) at_text stop (sym i) (text_ahead b (content_text f (tree_text t rest)) g.0) in
       let q : GoodContent (byte s.0 s.1) d = subst (λ x. GoodContent x d) s.2 h in
       met_at c s.1 (ap children s.2) (meet f s.1 g.1 q.1 (tails (ap (λ x. content_text x end) (sym s.2) ∙ i)))
   meet (reference n f) c g h i =
-      let s = shape_at c d h end (entity_text n (content_text f (tree_text t rest))) Reference stop (sym i) (entity_ahead n (content_text f (tree_text t rest))) in
+      let s = shape_at c d h end (entity_text n (content_text f (tree_text t rest))) at_reference stop (sym i) (entity_ahead n (content_text f (tree_text t rest))) in
       let q : GoodContent (reference s.0 s.1) d = subst (λ x. GoodContent x d) s.2 h in
       met_at c s.1 (ap children s.2) (meet f s.1 g q (entity_unique s.0 n _ _ (ap (λ x. content_text x end) (sym s.2) ∙ i)).1)
   meet (comment body f) c g h i =
-      let s = shape_at c d h end (comment_text body (content_text f (tree_text t rest))) Comment stop (sym i) refl in
+      let s = shape_at c d h end (comment_text body (content_text f (tree_text t rest))) at_comment stop (sym i) refl in
       let q : GoodContent (comment s.0 s.1) d = subst (λ x. GoodContent x d) s.2 h in
       met_at c s.1 (ap children s.2) (meet f s.1 g.1 q.1 (comment_unique s.0 body _ _ q.0 g.0 (ap (λ x. content_text x end) (sym s.2) ∙ i)).1)
   meet (child u f) c g h i = absurd (no_tree u g.0)
@@ -84,7 +83,7 @@ first_only bytes name inner rest n i r p q =
     (meet p.tree most_depth p.good rest (tree_text q.tree r) (tree_stops q.tree most_depth q.good r) 0 p.before q.before p.flat q.flat (sym q.is ∙ p.is))
   where
     no_kids : (c : Content) (t : Tree) (k : Content) → children c ≡ [] → children c ≡ t ∷ children k → ⊥
-    no_kids c t k a b = let z : ◌≡◌ {A = List Tree} [] (t ∷ children k) = sym a ∙ b in let o : ◌≡◌ {A = ℕ} 0 1 = cc in omega arith
+    no_kids c t k a b = cc
 
 -- a content that has children begins with its first one
 pub first_of : (c : Content) → GoodContent c most_depth → (children c ≡ []) ⊎ ((n i r : List ℕ) × FirstChild (content_text c []) n i r)
@@ -120,32 +119,35 @@ pub walk_law : (bytes : List ℕ) (r : Option Child) → FirstAnswer bytes r →
 walk_law bytes None a c h = none_left bytes c h a
 walk_law bytes (Some k) a c h = first_part bytes k.element.name.now k.element.content.now k.rest.now c h a.is
 
--- no element begins where nothing can be skipped, or none behind what is
-pub no_skip : (bytes : List ℕ) → Missing SkipForm bytes 0 → NoChild bytes
-no_skip bytes m name inner rest p = m _ (record { tree = p.before; good = p.flat; is = p.is; stops = tree_stops p.tree most_depth p.good rest })
+-- no element begins where nothing can be skipped
+pub no_skip : (bytes : List ℕ) (r : Option Child) → r ≡ None → Missing SkipForm bytes → FirstAnswer bytes r
+no_skip bytes r e m = cases_none r (NoChild bytes) (λ k. OnlyFirst bytes k.element.name.now k.element.content.now k.rest.now) e (λ name inner rest p. m _ (skipped name inner rest p))
+  where
+    skipped : (name inner rest : List ℕ) (p : FirstChild bytes name inner rest) → SkipForm bytes (tree_text p.tree rest)
+    skipped name inner rest p = record { tree = p.before; good = p.flat; is = p.is; stops = tree_stops p.tree most_depth p.good rest }
 
-pub no_element : (bytes : List ℕ) (start : ℕ) → Ends SkipForm bytes 0 start → Missing (ElementForm most_depth) bytes start → NoChild bytes
-no_element bytes start e m name inner rest p =
+-- the first child is the element that stands behind what is skipped
+pub child_answer : (bytes start : List ℕ) (r : Option Child) → Ends SkipForm bytes start → ElementAnswer most_depth start r → FirstAnswer bytes r
+child_answer bytes start None e m = λ name inner rest p.
     let same = e.only _ (record { tree = p.before; good = p.flat; is = p.is; stops = tree_stops p.tree most_depth p.good rest }) in
     m rest (record { tree = p.tree; good = p.good; is = sym same })
+child_answer bytes start (Some k) e s =
+    let t = e.is in
+    let shows = element_is s.tree s.good k.element.name.now k.element.content.now s.named s.holds in
+    let is : FirstChild bytes k.element.name.now k.element.content.now k.rest.now = record { before = t.tree; flat = t.good; tree = s.tree; good = s.good; is = t.is ∙ ap (content_text t.tree) s.is; shows = shows } in
+    record { is = is; only = λ n i r q. first_only bytes k.element.name.now k.element.content.now k.rest.now n i r is q }
 
--- the element that stands behind what is skipped
-pub element_first : (bytes : List ℕ) (start : ℕ) (p : Parts) → Ends SkipForm bytes 0 start → (s : StandsAt bytes most_depth start p) → (name inner rest : List ℕ) → name ≡ between bytes (start + 1) p.name_end → inner ≡ between bytes p.inner p.close → rest ≡ drop p.end bytes → OnlyFirst bytes name inner rest
-element_first bytes start p e s name inner rest n i r = record { is = is; only = λ n i r q. first_only bytes name inner rest n i r is q }
-  where
-    is : FirstChild bytes name inner rest
-    is = record { before = e.is.tree; flat = e.is.good; tree = s.tree; good = s.good; is = e.is.is ∙ ap (content_text e.is.tree) (s.is ∙ ap (tree_text s.tree) (sym r)); shows = element_is s.tree s.good name inner (n ∙ s.name) (i ∙ s.inner) }
+-- what follows it is shorter, also with the child's content
+pub child_forward : (bytes start : List ℕ) (r : Option Child) → SkipForm bytes start → ElementAnswer most_depth start r → IfSome r (λ k. length k.element.content.now + length k.rest.now < length bytes)
+child_forward bytes start None s h = tt
+child_forward bytes start (Some k) s h = omega (arith, skip_within bytes start s, element_forward most_depth start _ _ _ h)
 
 told_more : (b : ℕ) (bytes : List ℕ) → text_byte b ≡ true → (o : Option (List ℕ)) → TextAnswer bytes o → TextAnswer (b ∷ bytes) (option_map (λ bs. b ∷ bs) o)
 told_more b bytes t None h = λ a. h a.1
 told_more b bytes t (Some bs) h = (ap (λ l. b ∷ l) h.0, (t, h.1))
 
 no_entity : (e : Entity) (rest : List ℕ) → AllOf text_byte (entity_text e rest) → ⊥
-no_entity lt rest a = both_ways false refl a.0
-no_entity gt rest a = both_ways false refl a.0
-no_entity amp rest a = both_ways false refl a.0
-no_entity quot rest a = both_ways false refl a.0
-no_entity apos rest a = both_ways false refl a.0
+no_entity e rest a = both_ways false refl a.0
 
 no_tree_text : (t : Tree) (rest : List ℕ) → AllOf text_byte (tree_text t rest) → ⊥
 no_tree_text (empty t) rest a = both_ways false refl a.0

@@ -1,6 +1,8 @@
 -- The classes of bytes that the XML block is made of.
 use Rattle.std.specs.Prelude.{◌≡◌, ℕ, Bool, true, not, ◌&&◌, ◌||◌, List, ◌==◌, nat_le}
 use Rattle.std.specs.List.{AllByRecursion}
+use Rattle.xml.specs.declared.class.Class.{Class}
+use Rattle.xml.specs.declared.class.Class.TheVariants.{White, Name, AttributeName, Text, Value}
 
 -- white space: 20, 09, 0A and 0D
 abbrev pub white : ℕ → Bool
@@ -25,6 +27,18 @@ text_byte b = (nat_le 32 b || white b) && (not (b == 127) && (not (b == 60) && n
 -- what stands in a value between two quotes q: any byte but that quote and `<`
 abbrev pub value_byte : ℕ → ℕ → Bool
 value_byte q b = not (b == q) && not (b == 60)
+
+-- what the end of a tag begins with: `>` or `/`
+abbrev pub tag_end : ℕ → Bool
+tag_end b = b == 62 || b == 47
+
+-- the byte b is of the class
+abbrev pub is_in : Class → ℕ → Bool
+is_in White b = white b
+is_in Name b = name_byte b
+is_in AttributeName b = attribute_byte b
+is_in Text b = text_byte b
+is_in (Value q) b = value_byte q b
 
 -- every byte is of the kind p
 abbrev pub AllOf : (ℕ → Bool) → List ℕ → Type 0

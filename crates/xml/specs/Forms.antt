@@ -1,18 +1,20 @@
 -- The forms that the readers of single things read.
 use Rattle.std.specs.Prelude.{◌≡◌, ℕ, Bool, true, false, ◌⊎◌, List, [], ◌∷◌, ◌++◌, codes}
 use Rattle.std.specs.List.{AllByRecursion}
-use Rattle.xml.specs.declared.lookahead.Lookahead.TheVariants.{Comment, EndTag}
-use Rattle.xml.specs.Bytes.{AllOf, white, attribute_byte, value_byte}
-use Rattle.xml.specs.Grammar.{IsName, Attribute, attributes_text, GoodAttribute, Entity, lt, gt, amp, quot, apos, entity_name, entity_text, NoPair, comment_text, GoodComment, Tree, Content, tree_text, content_text, GoodTree, GoodContent, Misc, misc_text, GoodMisc, Declaration, absent, present, declaration_text, GoodDeclaration}
-use Rattle.xml.specs.Ahead.{ahead, Stops}
-use Rattle.xml.specs.Reads.{tag_end, Form, begins, Begins, Then, Span, Literal}
+use Rattle.xml.specs.Bytes.{AllOf, white, attribute_byte, value_byte, tag_end}
+use Rattle.xml.specs.Grammar.{IsName, Attribute, attributes_text, GoodAttribute, Tag, tag_text, GoodTag, Entity, entity_text, NoPair, comment_text, GoodComment, Tree, Content, tree_text, content_text, GoodTree, GoodContent, Misc, misc_text, GoodMisc, Declaration, absent, present, declaration_text, GoodDeclaration}
+use Rattle.xml.specs.Ahead.{at_comment, at_end_tag, ahead, Stops}
+use Rattle.xml.specs.Reads.{Form, begins, Begins, Then, Span, Literal}
 
 -- a name that goes on with bytes of the kind p, as long as there are any
-pub record NameForm (p : ℕ → Bool) (xs ys : List ℕ) : Type 0 where
-  pub name : List ℕ
+pub record Named (p : ℕ → Bool) (xs name ys : List ℕ) : Type 0 where
   pub good : IsName p name
   pub is : xs ≡ name ++ ys
   pub stops : begins p ys ≡ false
+
+-- the same, whatever the name
+abbrev pub NameForm : (ℕ → Bool) → Form
+NameForm p xs ys = (name : List ℕ) × Named p xs name ys
 
 -- a value between two quotes q
 pub record QuotedForm (q : ℕ) (xs ys : List ℕ) : Type 0 where
@@ -37,15 +39,19 @@ pub record TailForm (xs ys : List ℕ) : Type 0 where
   pub is : xs ≡ attributes_text attributes (space ++ ys)
   pub ends : begins tag_end ys ≡ true
 
+-- a start tag or an empty tag of the name, up to its `>` or `/>`
+pub record Start (xs name ys : List ℕ) : Type 0 where
+  pub tag : Tag
+  pub good : GoodTag tag
+  pub is : xs ≡ 60 ∷ tag_text tag ys
+  pub named : name ≡ tag.name
+  pub ends : begins tag_end ys ≡ true
+
 -- an end tag of the name
 pub record EndForm (name : List ℕ) (xs ys : List ℕ) : Type 0 where
   pub space : List ℕ
   pub good : AllOf white space
   pub is : xs ≡ 60 ∷ 47 ∷ (name ++ (space ++ (62 ∷ ys)))
-
--- the bytes are the name of a reference
-abbrev pub IsEntity : List ℕ → Type 0
-IsEntity name = (name ≡ entity_name lt) ⊎ ((name ≡ entity_name gt) ⊎ ((name ≡ entity_name amp) ⊎ ((name ≡ entity_name quot) ⊎ (name ≡ entity_name apos))))
 
 -- a reference
 abbrev pub EntityForm : Form
@@ -82,7 +88,7 @@ SkipForm = PiecesForm (λ ys. Stops (ahead ys)) 0
 
 -- content up to an end tag
 abbrev pub ContentForm : ℕ → Form
-ContentForm depth = PiecesForm (λ ys. ahead ys ≡ EndTag) depth
+ContentForm depth = PiecesForm (λ ys. ahead ys ≡ at_end_tag) depth
 
 -- white space and comments, as long as there are any
 pub record MiscForm (xs ys : List ℕ) : Type 0 where
@@ -90,7 +96,7 @@ pub record MiscForm (xs ys : List ℕ) : Type 0 where
   pub good : GoodMisc tree
   pub is : xs ≡ misc_text tree ys
   pub stops : begins white ys ≡ false
-  pub no_comment : ahead ys ≡ Comment → ⊥
+  pub no_comment : ahead ys ≡ at_comment → ⊥
 
 -- where there is no declaration, none follows
 abbrev pub Alone : Declaration → List ℕ → Type 0

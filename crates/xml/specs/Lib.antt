@@ -4,4 +4,5 @@ pub mod Ahead
 pub mod Reads
 pub mod Forms
 pub mod Walks
-pub mod Parts
+pub mod Elements
+pub mod Children

@@ -1,43 +1,33 @@
--- What it is to read something at a place of a text.
+-- What it is to read something that a text begins with.
 -- A form relates two lists: the first begins with a thing of the form, and the second is what is left behind it.
-use Rattle.std.specs.Prelude.{◌≡◌, ℕ, ◌≤◌, Bool, false, ◌||◌, List, [], ◌∷◌, ◌++◌, length, drop, Option, MatchOption, ◌==◌}
-use Rattle.xml.specs.declared.scan.Class.{Class}
-use Rattle.xml.specs.declared.scan.Class.TheVariants.{White, NameStart, Name, AttributeName, Text, Value, TagEnd, Byte}
-use Rattle.xml.specs.Bytes.{AllOf, white, name_start_byte, name_byte, attribute_byte, text_byte, value_byte}
-
--- what the end of a tag begins with: `>` or `/`
-abbrev pub tag_end : ℕ → Bool
-tag_end b = b == 62 || b == 47
-
--- the byte b is of the class
-abbrev pub is_in : Class → ℕ → Bool
-is_in White b = white b
-is_in NameStart b = name_start_byte b
-is_in Name b = name_byte b
-is_in AttributeName b = attribute_byte b
-is_in Text b = text_byte b
-is_in (Value q) b = value_byte q b
-is_in TagEnd b = tag_end b
-is_in (Byte c) b = b == c
+use Rattle.std.specs.Borrow.{Bor}
+use Rattle.std.specs.Prelude.{◌≡◌, ℕ, Bool, false, List, [], ◌∷◌, ◌++◌, Option, MatchOption}
+use Rattle.xml.specs.Bytes.{AllOf}
 
 -- what a thing is written as: the text that begins with it, and the rest
 abbrev pub Form : Type 1
 Form = List ℕ → List ℕ → Type 0
 
--- a thing of the form G starts at `at` and ends at `end`, and none that starts there ends elsewhere
-pub record Ends (G : Form) (text : List ℕ) (at : ℕ) (end : ℕ) : Type 0 where
-  pub after : at ≤ end
-  pub within : end ≤ length text
-  pub is : G (drop at text) (drop end text)
-  pub only : (rest : List ℕ) → G (drop at text) rest → rest ≡ drop end text
+-- xs begins with a thing of the form G, and ys is left behind it, and nothing else
+pub record Ends (G : Form) (xs ys : List ℕ) : Type 0 where
+  pub is : G xs ys
+  pub only : (zs : List ℕ) → G xs zs → zs ≡ ys
 
--- nothing of the form G starts at `at`
-abbrev pub Missing : Form → List ℕ → ℕ → Type 0
-Missing G text at = (rest : List ℕ) → G (drop at text) rest → ⊥
+-- xs begins with nothing of the form G
+abbrev pub Missing : Form → List ℕ → Type 0
+Missing G xs = (ys : List ℕ) → G xs ys → ⊥
 
--- r is the end of the thing of the form G that starts at `at`, if one does
-abbrev pub Reads : Form → List ℕ → ℕ → Option ℕ → Type 0
-Reads G text at r = MatchOption r (Missing G text at) (λ end. Ends G text at end)
+-- r is what is left behind the thing of the form G that xs begins with, if there is one
+abbrev pub Reads : Form → List ℕ → Option (Bor (List ℕ)) → Type 0
+Reads G xs r = MatchOption r (Missing G xs) (λ ys. Ends G xs ys.now)
+
+-- a form that also tells a part of its thing, as a name
+abbrev pub Told : Type 1
+Told = List ℕ → List ℕ → List ℕ → Type 0
+
+-- r is that part, and what is left behind the thing that xs begins with, if there is one
+abbrev pub Tells : Told → List ℕ → Option (Bor (List ℕ) × Bor (List ℕ)) → Type 0
+Tells T xs r = MatchOption r ((part ys : List ℕ) → T xs part ys → ⊥) (λ p. T xs p.0.now p.1.now)
 
 -- the given bytes
 abbrev pub Literal : List ℕ → Form

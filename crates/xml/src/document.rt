@@ -1,62 +1,53 @@
 // A whole document.
-ghost use Rattle.std.specs.Prelude.{◌≤◌, length, Decides, MatchOption};
+ghost use Rattle.std.specs.Prelude.{Decides, MatchOption};
 ghost use Rattle.xml.specs.Forms.{MiscForm, DeclarationForm};
 ghost use Rattle.xml.specs.Grammar.{IsDocument, OneTree};
 ghost use Rattle.xml.specs.Reads.{Reads};
 ghost use Rattle.xml.specs.Walks.{RootIs, RootAnswer};
 
-use crate::element::whole_element;
-use crate::lookahead::comment_begins;
-use crate::scan::{Class, is_end, pair, span, starts};
+use crate::element::{DEPTH, element};
+use crate::scan::{past_pair, past_white};
 use crate::tag::comment;
-use crate::walk::{Element, element_from};
+use crate::walk::Element;
 use shelf::{Reason, Refusal};
 
-// The end of white space and comments.
-fn misc(text: &[u8], at: usize) -> Option<usize>
-    requires { at ≤ length text.now }
-    ensures { Reads MiscForm text.now at result }
+// What follows white space and comments.
+fn misc(text: &[u8]) -> Option<&[u8]>
+    ensures { Reads MiscForm text.now result }
 {
-    let mut i = at;
+    // What is left is taken by a loop: an iterator of such pieces, each of which may be refused, would be longer.
+    let mut left = text;
     loop {
-        let next = span(text, i, Class::White);
-        if !comment_begins(text, next) {
+        let next = past_white(left);
+        if !next.starts_with(b"<!") {
             return Some(next);
         }
-        i = comment(text, next)?;
+        left = comment(next)?;
     }
 }
 
-// The end of the declaration, or the text's start where there is none.
-fn declaration(text: &[u8]) -> Option<usize>
-    ensures { Reads DeclarationForm text.now 0 result }
+// What follows the declaration, which may be left out.
+fn declaration(text: &[u8]) -> Option<&[u8]>
+    ensures { Reads DeclarationForm text.now result }
 {
-    if starts(text, 0, b"<?xml") {
-        pair(text, 5, b'?', b'>')
-    } else {
-        Some(0)
+    match text.strip_prefix(b"<?xml") {
+        Some(body) => past_pair(body, b'?', b'>'),
+        None => Some(text),
     }
 }
 
 // The root of the document that the text is, if it is one.
-fn document_root<'a>(text: &'a [u8]) -> Option<Element<'a>>
+fn document_root(text: &[u8]) -> Option<Element<'_>>
     ensures { MatchOption result (IsDocument text.now → ⊥) (λ e. RootIs text.now e.name.now e.content.now) }
 {
     let head = declaration(text)?;
-    let start = misc(text, head)?;
-    let parts = whole_element(text, start)?;
-    let last = misc(text, parts.end)?;
-    if !is_end(text, last) {
+    let start = misc(head)?;
+    let root = element(start, DEPTH)?;
+    let last = misc(root.rest)?;
+    if !last.is_empty() {
         return None;
     }
-    Some(element_from(text, start, parts))
-}
-
-// Whether the text is a document.
-fn is_document(text: &[u8]) -> bool
-    ensures { Decides result (IsDocument text.now) }
-{
-    document_root(text).is_some()
+    Some(root.element)
 }
 
 // Whether the text is a document. It is that of one tree at most.
@@ -64,18 +55,12 @@ pub fn well_formed(text: &[u8]) -> bool
     ensures answer { Decides result (IsDocument text.now) }
     ensures one { OneTree text.now }
 {
-    is_document(text)
+    document_root(text).is_some()
 }
 
 // The root of the document that the text is, or the refusal of a text that is none.
-pub fn root<'a>(text: &'a [u8]) -> Result<Element<'a>, Refusal>
+pub fn root(text: &[u8]) -> Result<Element<'_>, Refusal>
     ensures { RootAnswer text.now result }
 {
-    match document_root(text) {
-        Some(element) => Ok(element),
-        None => Err(Refusal {
-            reason: Reason::XmlMalformed,
-            place: 0,
-        }),
-    }
+    document_root(text).ok_or(Reason::XmlMalformed.at(0))
 }

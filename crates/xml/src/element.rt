@@ -1,101 +1,70 @@
 // Elements and their content.
-ghost use Rattle.std.specs.Prelude.{◌≡◌, ◌≤◌, length, MatchOption};
-ghost use Rattle.xml.specs.Forms.{SkipForm, ContentForm, ElementForm};
-ghost use Rattle.xml.specs.Grammar.{most_depth};
-ghost use Rattle.xml.specs.Parts.{StandsAt, between};
-ghost use Rattle.xml.specs.Reads.{Reads, Missing};
+ghost use Rattle.xml.specs.Forms.{SkipForm, ContentForm};
+ghost use Rattle.xml.specs.Reads.{Reads};
+ghost use Rattle.xml.specs.Elements.{ElementAnswer};
 
-use crate::lookahead::{Lookahead, end_tag_begins};
-use crate::scan::{Class, byte, found, literal, text_end};
+use crate::class::is_text;
+use crate::scan::past_text;
 use crate::tag::{comment, end_tag, reference, start_tag};
+use crate::walk::{Child, Element};
 
 // How many elements may stand inside one another, the root included.
-const DEPTH: u8 = 16;
+pub(crate) const DEPTH: u8 = 16;
 
-// Where the parts of an element stand: the end of its name, the two ends of its content, and its own end.
-#[derive(Clone, Copy)]
-pub(crate) struct Parts {
-    pub(crate) name_end: usize,
-    pub(crate) inner: usize,
-    pub(crate) close: usize,
-    pub(crate) end: usize,
-}
-
-// The end of text, references and comments.
-pub(crate) fn skip(text: &[u8], at: usize) -> Option<usize>
-    requires { at ≤ length text.now }
-    ensures { Reads SkipForm text.now at result }
+// What follows text, references and comments.
+pub(crate) fn skip(text: &[u8]) -> Option<&[u8]>
+    ensures { Reads SkipForm text.now result }
 {
-    let mut i = at;
+    // What is left is taken by a loop: an iterator of such pieces, each of which may be refused, would be longer.
+    let mut left = text;
     loop {
-        match Lookahead::at(text, i) {
-            Lookahead::Text => i = text_end(text, i),
-            Lookahead::Reference => i = reference(text, i)?,
-            Lookahead::Comment => i = comment(text, i)?,
-            Lookahead::EndTag | Lookahead::End | Lookahead::Other => return Some(i),
-        }
+        left = match left {
+            [b, more @ ..] if is_text(*b) => past_text(more),
+            [b'&', ..] => reference(left)?,
+            [b'<', b'!', ..] => comment(left)?,
+            _ => return Some(left),
+        };
     }
 }
 
-// The bytes between two places.
-pub(crate) fn part<'a>(text: &'a [u8], from: usize, to: usize) -> &'a [u8]
-    requires { (from ≤ to) × (to ≤ length text.now) }
-    ensures { result.now ≡ between text.now from to }
-{
-    &text[from..to]
-}
-
-// The element that starts at `at`, in which at most `depth` elements stand inside one another.
+// The element that the text begins with, in which at most `depth` elements stand inside one another, and what follows it.
 #[cycle(content_element)]
-fn element(text: &[u8], at: usize, depth: u8) -> Option<Parts>
-    requires { at ≤ length text.now }
-    ensures { MatchOption result (Missing (ElementForm depth) text.now at) (λ p. StandsAt text.now depth at p) }
+pub(crate) fn element(text: &[u8], depth: u8) -> Option<Child<'_>>
+    ensures { ElementAnswer depth text.now result }
 {
     if depth == 0 {
         return None;
     }
-    let tag = start_tag(text, at)?;
-    let name_end = tag.name_end;
-    if found(text, tag.end, Class::Byte(b'/')) {
-        let end = literal(text, tag.end, b"/>")?;
-        return Some(Parts {
-            name_end,
-            inner: tag.end,
-            close: tag.end,
-            end,
+    let (name, tag) = start_tag(text)?;
+    if let Some(rest) = tag.strip_prefix(b"/>") {
+        let content = &tag[..0];
+        return Some(Child {
+            element: Element { name, content },
+            rest,
         });
     }
-    let inner = byte(text, tag.end, b'>')?;
-    let close = content(text, inner, depth - 1)?;
-    let end = end_tag(text, close, part(text, at + 1, name_end))?;
-    Some(Parts {
-        name_end,
-        inner,
-        close,
-        end,
+    let inner = tag.strip_prefix(b">")?;
+    let close = content(inner, depth - 1)?;
+    let rest = end_tag(close, name)?;
+    let content = &inner[..inner.len() - close.len()];
+    Some(Child {
+        element: Element { name, content },
+        rest,
     })
 }
 
-// Where the end tag stands that ends the content which starts at `at`.
+// The end tag, and what follows it, behind the content that the text begins with.
 #[cycle(content_element)]
-fn content(text: &[u8], at: usize, depth: u8) -> Option<usize>
-    requires { at ≤ length text.now }
-    ensures { Reads (ContentForm depth) text.now at result }
+fn content(text: &[u8], depth: u8) -> Option<&[u8]>
+    ensures { Reads (ContentForm depth) text.now result }
 {
-    let mut i = at;
+    // What is left is taken by a loop: an iterator of such pieces, each of which may be refused, would be longer.
+    let mut left = text;
     loop {
-        let next = skip(text, i)?;
-        if end_tag_begins(text, next) {
+        let next = skip(left)?;
+        if next.starts_with(b"</") {
             return Some(next);
         }
-        i = element(text, next, depth)?.end;
+        left = element(next, depth)?.rest;
     }
-}
-
-// The element that starts at `at`, as deep as elements may go.
-pub(crate) fn whole_element(text: &[u8], at: usize) -> Option<Parts>
-    requires { at ≤ length text.now }
-    ensures { MatchOption result (Missing (ElementForm most_depth) text.now at) (λ p. StandsAt text.now most_depth at p) }
-{
-    element(text, at, DEPTH)
 }

@@ -1,162 +1,103 @@
 // Tags, comments and references: names, attributes, white space, and what stands in quotes.
-ghost use Rattle.std.specs.Prelude.{◌<◌, ◌≤◌, [], ◌∷◌, length, IfSome, Decides, MatchBool, MatchOption};
-ghost use Rattle.xml.specs.Forms.{NameForm, QuotedForm, ValueForm, AttributeForm, TailForm, EndForm, PairForm, CommentForm, IsEntity, EntityForm};
-ghost use Rattle.xml.specs.Parts.{StartForm, StartsAt};
-ghost use Rattle.xml.specs.Reads.{is_in, Literal, Reads, Missing};
+ghost use Rattle.std.specs.Prelude.{◌≡◌, ℕ, ◌<◌, true, length, IfSome};
+ghost use Rattle.xml.specs.Bytes.{name_start_byte, is_in};
+ghost use Rattle.xml.specs.Forms.{Named, ValueForm, AttributeForm, TailForm, Start, EndForm, CommentForm, EntityForm};
+ghost use Rattle.xml.specs.Reads.{Reads, Tells};
 
-use crate::scan::{Class, byte, found, is_same, literal, pair, span};
+use crate::class::{Class, starts_name};
+use crate::scan::{past_pair, past_white};
+use classes::ByteClass;
 
-// The end of a name that goes on with bytes of the class.
-fn name(text: &[u8], at: usize, class: Class) -> Option<usize>
-    requires { at ≤ length text.now }
-    ensures { Reads (NameForm (is_in class)) text.now at result }
+// A name that goes on with bytes of the class, and what follows it.
+fn name(text: &[u8], class: Class) -> Option<(&[u8], &[u8])>
+    requires { (b : ℕ) → name_start_byte b ≡ true → is_in class b ≡ true }
+    ensures { Tells (Named (is_in class)) text.now result }
 {
-    if !found(text, at, Class::NameStart) {
-        return None;
-    }
-    Some(span(text, at + 1, class))
-}
-
-// The end of a value between two of the given quotes.
-fn quoted(text: &[u8], at: usize, quote: u8) -> Option<usize>
-    requires { at ≤ length text.now }
-    ensures { Reads (QuotedForm quote) text.now at result }
-{
-    let start = byte(text, at, quote)?;
-    byte(text, span(text, start, Class::Value(quote)), quote)
-}
-
-// The end of an attribute's value.
-fn attribute_value(text: &[u8], at: usize) -> Option<usize>
-    requires { at ≤ length text.now }
-    ensures { Reads ValueForm text.now at result }
-{
-    if found(text, at, Class::Byte(b'"')) {
-        quoted(text, at, b'"')
-    } else {
-        quoted(text, at, b'\'')
+    let (name, rest) = class.split(text);
+    match name {
+        [first, ..] if starts_name(*first) => Some((name, rest)),
+        _ => None,
     }
 }
 
-// The end of one attribute.
-fn attribute(text: &[u8], at: usize) -> Option<usize>
-    requires { at ≤ length text.now }
-    ensures { Reads AttributeForm text.now at result }
+// What follows a value in double or single quotes.
+fn value(text: &[u8]) -> Option<&[u8]>
+    ensures { Reads ValueForm text.now result }
 {
-    let end = name(text, at, Class::AttributeName)?;
-    let sign = byte(text, span(text, end, Class::White), b'=')?;
-    attribute_value(text, span(text, sign, Class::White))
+    match text {
+        [quote @ (b'"' | b'\''), rest @ ..] => {
+            let (_, rest) = Class::Value(*quote).split(rest);
+            rest.strip_prefix(&[*quote])
+        }
+        _ => None,
+    }
 }
 
-// Whether something stands between two places.
-fn is_apart(from: usize, to: usize) -> bool
-    ensures { MatchBool result (from < to) (to ≤ from) }
+// What follows one attribute.
+fn attribute(text: &[u8]) -> Option<&[u8]>
+    ensures { Reads AttributeForm text.now result }
 {
-    from < to
+    let (_, rest) = name(text, Class::AttributeName)?;
+    let rest = past_white(rest).strip_prefix(b"=")?;
+    value(past_white(rest))
 }
 
-// Where the `>` or `/>` of a tag stands, past its attributes and white space.
-fn tail(text: &[u8], at: usize) -> Option<usize>
-    requires { at ≤ length text.now }
-    ensures { Reads TailForm text.now at result }
+// The end of a tag, from its `>` or `/>` on, past its attributes and white space.
+fn tail(text: &[u8]) -> Option<&[u8]>
+    ensures { Reads TailForm text.now result }
 {
-    let mut i = at;
+    // What is left is taken by a loop: an iterator of such pieces, each of which may be refused, would be longer.
+    let mut left = text;
     loop {
-        let next = span(text, i, Class::White);
-        if found(text, next, Class::TagEnd) {
-            return Some(next);
+        let (space, rest) = Class::White.split(left);
+        match rest {
+            [b'>' | b'/', ..] => return Some(rest),
+            _ if space.is_empty() => return None,
+            _ => left = attribute(rest)?,
         }
-        if !is_apart(i, next) {
-            return None;
-        }
-        i = attribute(text, next)?;
     }
 }
 
-// Where the name and the attributes of a start tag or an empty tag end.
-#[derive(Clone, Copy)]
-pub(crate) struct StartTag {
-    pub(crate) name_end: usize,
-    pub(crate) end: usize,
+// The name of a start tag or an empty tag, and its end, from its `>` or `/>` on.
+pub(crate) fn start_tag(text: &[u8]) -> Option<(&[u8], &[u8])>
+    ensures { Tells Start text.now result }
+{
+    let text = text.strip_prefix(b"<")?;
+    let (name, rest) = name(text, Class::Name)?;
+    Some((name, tail(rest)?))
 }
 
-// The start tag or empty tag at `at`, up to its `>` or `/>`.
-pub(crate) fn start_tag(text: &[u8], at: usize) -> Option<StartTag>
-    requires { at ≤ length text.now }
-    ensures { MatchOption result (Missing StartForm text.now at) (λ s. StartsAt text.now at s) }
+// What follows an end tag of the name.
+pub(crate) fn end_tag<'a>(text: &'a [u8], of: &[u8]) -> Option<&'a [u8]>
+    ensures { Reads (EndForm of.now) text.now result }
 {
-    let start = byte(text, at, b'<')?;
-    let name_end = name(text, start, Class::Name)?;
-    let end = tail(text, name_end)?;
-    Some(StartTag { name_end, end })
+    let rest = text.strip_prefix(b"</")?;
+    let rest = rest.strip_prefix(of)?;
+    past_white(rest).strip_prefix(b">")
 }
 
-// The end of the given name, where an end tag repeats it.
-fn repeated_name(text: &[u8], at: usize, given: &[u8]) -> Option<usize>
-    requires { at ≤ length text.now }
-    ensures { Reads (Literal given.now) text.now at result }
+// What follows a comment.
+pub(crate) fn comment(text: &[u8]) -> Option<&[u8]>
+    ensures reads { Reads CommentForm text.now result }
+    ensures forward { IfSome result (λ r. length r.now < length text.now) }
 {
-    literal(text, at, given)
+    let body = text.strip_prefix(b"<!--")?;
+    past_pair(body, b'-', b'-')?.strip_prefix(b">")
 }
 
-// The end of an end tag of the given name.
-pub(crate) fn end_tag(text: &[u8], at: usize, name: &[u8]) -> Option<usize>
-    requires { at ≤ length text.now }
-    ensures { Reads (EndForm name.now) text.now at result }
-{
-    let start = literal(text, at, b"</")?;
-    let end = repeated_name(text, start, name)?;
-    byte(text, span(text, end, Class::White), b'>')
-}
+// The five references.
+const REFERENCES: [&[u8]; 5] = [b"&lt;", b"&gt;", b"&amp;", b"&quot;", b"&apos;"];
 
-// The end of a comment's body, with the `--` behind it.
-fn comment_body(text: &[u8], at: usize) -> Option<usize>
-    requires { at ≤ length text.now }
-    ensures { Reads (PairForm 45 45) text.now at result }
+// What follows a reference.
+pub(crate) fn reference(text: &[u8]) -> Option<&[u8]>
+    ensures reads { Reads EntityForm text.now result }
+    ensures forward { IfSome result (λ r. length r.now < length text.now) }
 {
-    pair(text, at, b'-', b'-')
-}
-
-// The end of the `>` that must follow the `--` of a comment.
-fn comment_close(text: &[u8], at: usize) -> Option<usize>
-    requires { at ≤ length text.now }
-    ensures { Reads (Literal (62 ∷ [])) text.now at result }
-{
-    byte(text, at, b'>')
-}
-
-// The end of a comment.
-pub(crate) fn comment(text: &[u8], at: usize) -> Option<usize>
-    requires { at ≤ length text.now }
-    ensures reads { Reads CommentForm text.now at result }
-    ensures forward { IfSome result (λ end. at < end) }
-{
-    let start = literal(text, at, b"<!--")?;
-    let end = comment_body(text, start)?;
-    comment_close(text, end)
-}
-
-// Whether a reference has the name.
-fn is_entity(name: &[u8]) -> bool
-    ensures { Decides result (IsEntity name.now) }
-{
-    is_same(name, b"lt")
-        || is_same(name, b"gt")
-        || is_same(name, b"amp")
-        || is_same(name, b"quot")
-        || is_same(name, b"apos")
-}
-
-// The end of a reference.
-pub(crate) fn reference(text: &[u8], at: usize) -> Option<usize>
-    requires { at ≤ length text.now }
-    ensures reads { Reads EntityForm text.now at result }
-    ensures forward { IfSome result (λ end. at < end) }
-{
-    let start = byte(text, at, b'&')?;
-    let end = span(text, start, Class::Name);
-    if !is_entity(&text[start..end]) {
-        return None;
+    // A `for` over the table: a match on their bytes, or a chain of `or_else`, is not proved.
+    for written in REFERENCES {
+        if let Some(rest) = text.strip_prefix(written) {
+            return Some(rest);
+        }
     }
-    byte(text, end, b';')
+    None
 }

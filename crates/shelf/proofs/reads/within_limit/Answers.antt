@@ -1,7 +1,9 @@
-use Rattle.std.proofs.Common.{sym, arith}
-use Rattle.std.proofs.lemmas.List.{take_all}
+use Rattle.std.proofs.Common.{◌≡◌, ℕ, min, length, take, ap, ◌∙◌, arith}
+use Rattle.std.proofs.lemmas.List.{take_min}
 use Rattle.shelf.specs.Meaning.{limit}
 use Rattle.shelf.proofs.reads.within_limit.Goals as goal
 
-pub returns-then-bytes-le-LIMIT : goal.returns-then-bytes-le-LIMIT
-returns-then-bytes-le-LIMIT c = record { value = sym (take_all limit c.args.bytes.now (omega arith)); bound = omega arith }
+pub returns-clause-value : goal.returns-clause-value
+returns-clause-value c =
+    let end : c.min.result ≡ min limit (length c.args.bytes.now) = omega arith in
+    ap (λ (k : ℕ). take k c.args.bytes.now) end ∙ take_min limit c.args.bytes.now

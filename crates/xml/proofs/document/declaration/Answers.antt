@@ -1,8 +1,11 @@
-use Rattle.xml.proofs.Documents.{declared_reads, undeclared_ends}
+use Rattle.std.proofs.Common.{codes, Some}
+use Rattle.xml.specs.Forms.{PairForm, DeclarationForm}
+use Rattle.xml.proofs.Steps.{reads_as, literal_reads}
+use Rattle.xml.proofs.Documents.{declared_same}
 use Rattle.xml.proofs.document.declaration.Goals as goal
 
-pub returns-then-starts : goal.returns-then-starts
-returns-then-starts c = declared_reads c.args.text.now _ c.if-starts.ensures c.pair.ensures
-
-pub returns-else-starts : goal.returns-else-starts
-returns-else-starts c = undeclared_ends c.args.text.now c.if-starts.ensures
+pub returns-in-Some : goal.returns-in-Some
+returns-in-Some c =
+    let text = c.args.text.now in
+    let body = c.in-Some.body in
+    reads_as (PairForm 63 62) DeclarationForm text body.now _ (declared_same text body.now (literal_reads (codes "<?xml") text (Some body) c.in-Some.ensures.cases).is) c.past_pair.ensures

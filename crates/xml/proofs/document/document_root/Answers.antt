@@ -1,71 +1,50 @@
-use Rattle.std.proofs.Common.{◌≡◌, ℕ, List, Some, None, Option, MatchOption}
-use Rattle.xml.specs.declared.walk.Element.{Element}
-use Rattle.xml.specs.Grammar.{IsDocument}
-use Rattle.xml.specs.Reads.{Form, Then, Missing}
-use Rattle.xml.specs.Forms.{MiscForm, DeclarationForm, ElementForm}
-use Rattle.xml.specs.Walks.{RootIs}
-use Rattle.xml.proofs.Forms.{reads_then, missing_first, cases_none}
-use Rattle.xml.proofs.Elements.{stands_ends}
-use Rattle.xml.proofs.Documents.{DocumentChain, no_document, not_all, root_read}
+use Rattle.std.proofs.Common.{rules, ◌<◌, length, None, Some}
+use Rattle.xml.specs.Reads.{Form, Then}
+use Rattle.xml.specs.Grammar.{most_depth}
+use Rattle.xml.specs.Forms.{ElementForm, MiscForm, DeclarationForm}
+use Rattle.xml.proofs.Steps.{missing_first, reads_then}
+use Rattle.xml.proofs.Elements.{element_ends}
+use Rattle.xml.proofs.Documents.{root_none, not_all, root_read}
 use Rattle.xml.proofs.document.document_root.Goals as goal
 
-abbrev Last : Form
-Last = Then (ElementForm 16) MiscForm
+abbrev Root : Form
+Root = Then (ElementForm most_depth) MiscForm
 
-abbrev Rest : Form
-Rest = Then MiscForm Last
-
--- a text that no document is read from has no root
-rootless : (text : List ℕ) (o : Option Element) → o ≡ None → Missing DocumentChain text 0 → MatchOption o (IsDocument text → ⊥) (λ e. RootIs text e.name.now e.content.now)
-rootless text o e m = cases_none o (IsDocument text → ⊥) (λ e. RootIs text e.name.now e.content.now) e (no_document text m)
+abbrev Body : Form
+Body = Then MiscForm Root
 
 pub returns-in_err-head : goal.returns-in_err-head
-returns-in_err-head c =
-    let text = c.args.text.now in
-    rootless text _ c.from_residual.ensures (missing_first DeclarationForm Rest text 0 c.in_err-head.ensures)
+returns-in_err-head c = root_none _ _ c.from_residual.ensures (missing_first DeclarationForm Body _ c.in_err-head.ensures)
 
 pub returns-in_err-start : goal.returns-in_err-start
 returns-in_err-start c =
-    let text = c.args.text.now in
-    let head = c.in_ok-head.head in
-    rootless text _ c.from_residual-in_err-start.ensures
-    (reads_then DeclarationForm Rest text 0 head None c.in_ok-head.ensures (missing_first MiscForm Last text head c.in_err-start.ensures))
+    root_none _ _ c.from_residual-in_err-start.ensures
+    (reads_then DeclarationForm Body _ _ None c.in_ok-head.ensures
+    (missing_first MiscForm Root _ c.in_err-start.ensures))
 
-pub returns-in_err-parts : goal.returns-in_err-parts
-returns-in_err-parts c =
-    let text = c.args.text.now in
-    let head = c.in_ok-head.head in
-    let start = c.in_ok-start.start in
-    rootless text _ c.from_residual-in_err-parts.ensures
-    (reads_then DeclarationForm Rest text 0 head None c.in_ok-head.ensures
-    (reads_then MiscForm Last text head start None c.in_ok-start.ensures
-    (missing_first (ElementForm 16) MiscForm text start c.in_err-parts.ensures)))
+pub returns-in_err-root : goal.returns-in_err-root
+returns-in_err-root c =
+    root_none _ _ c.from_residual-in_err-root.ensures
+    (reads_then DeclarationForm Body _ _ None c.in_ok-head.ensures
+    (reads_then MiscForm Root _ _ None c.in_ok-start.ensures
+    (missing_first (ElementForm most_depth) MiscForm _ c.in_err-root.ensures)))
 
 pub returns-in_err-last : goal.returns-in_err-last
 returns-in_err-last c =
-    let text = c.args.text.now in
-    let head = c.in_ok-head.head in
-    let start = c.in_ok-start.start in
-    let end = c.in_ok-parts.parts.end in
-    rootless text _ c.from_residual-in_err-last.ensures
-    (reads_then DeclarationForm Rest text 0 head None c.in_ok-head.ensures
-    (reads_then MiscForm Last text head start None c.in_ok-start.ensures
-    (reads_then (ElementForm 16) MiscForm text start end None (stands_ends text 16 start c.in_ok-parts.parts c.in_ok-parts.ensures) c.in_err-last.ensures)))
+    root_none _ _ c.from_residual-in_err-last.ensures
+    (reads_then DeclarationForm Body _ _ None c.in_ok-head.ensures
+    (reads_then MiscForm Root _ _ None c.in_ok-start.ensures
+    (reads_then (ElementForm most_depth) MiscForm _ _ None (element_ends most_depth _ _ _ _ c.in_ok-root.ensures) c.in_err-last.ensures)))
 
-pub returns-then-not-is_end : goal.returns-then-not-is_end
-returns-then-not-is_end c =
-    let text = c.args.text.now in
-    let head = c.in_ok-head.head in
-    let start = c.in_ok-start.start in
-    let end = c.in_ok-parts.parts.end in
+pub returns-then-not-is_empty : goal.returns-then-not-is_empty
+returns-then-not-is_empty c =
     let last = c.in_ok-last.last in
-    not_all text last
-    (reads_then DeclarationForm Rest text 0 head (Some last) c.in_ok-head.ensures
-    (reads_then MiscForm Last text head start (Some last) c.in_ok-start.ensures
-    (reads_then (ElementForm 16) MiscForm text start end (Some last) (stands_ends text 16 start c.in_ok-parts.parts c.in_ok-parts.ensures) c.in_ok-last.ensures)))
-    c.if-not-is_end.ensures
+    let more : 0 < length last.now = search rules in
+    not_all _ last.now
+    (reads_then DeclarationForm Body _ _ (Some last) c.in_ok-head.ensures
+    (reads_then MiscForm Root _ _ (Some last) c.in_ok-start.ensures
+    (reads_then (ElementForm most_depth) MiscForm _ _ (Some last) (element_ends most_depth _ _ _ _ c.in_ok-root.ensures) c.in_ok-last.ensures)))
+    more
 
 pub returns : goal.returns
-returns c =
-    let text = c.args.text.now in
-    root_read text c.in_ok-head.head c.in_ok-start.start c.in_ok-last.last c.in_ok-parts.parts c.in_ok-head.ensures c.in_ok-start.ensures c.in_ok-parts.ensures c.in_ok-last.ensures c.if-not-is_end.ensures _ _ c.element_from.ensures.name c.element_from.ensures.content
+returns c = root_read _ _ _ _ _ _ _ c.in_ok-head.ensures.is c.in_ok-start.ensures.is c.in_ok-root.ensures c.in_ok-last.ensures.is (search rules)

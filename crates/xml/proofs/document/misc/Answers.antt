@@ -1,40 +1,22 @@
-use Rattle.std.proofs.Common.{ℕ, ◌↔◌, List, drop, arith}
-use Rattle.xml.specs.Bytes.{white}
-use Rattle.xml.specs.Reads.{Span, Ends}
-use Rattle.xml.specs.Forms.{MiscForm, CommentForm}
-use Rattle.xml.proofs.Forms.{reads_none}
-use Rattle.xml.proofs.Contents.{step, onward}
-use Rattle.xml.proofs.Documents.{white_split, white_join, note_split, note_join, misc_none, misc_only}
+use Rattle.std.proofs.Common.{rules, None, Some}
+use Rattle.xml.specs.Forms.{MiscForm}
+use Rattle.xml.proofs.Steps.{reads_as, reads_none, onward}
+use Rattle.xml.proofs.Documents.{white_step, note_step, note_none, misc_ends}
 use Rattle.xml.proofs.document.misc.Goals as goal
 
-past_white : (text : List ℕ) (a i j : ℕ) → ((ys : List ℕ) → MiscForm (drop a text) ys ↔ MiscForm (drop i text) ys) → Ends (Span white) text i j → (ys : List ℕ) → MiscForm (drop a text) ys ↔ MiscForm (drop j text) ys
-past_white text a i j inv e = onward MiscForm text a i j inv (step (Span white) MiscForm text i j e (white_split (drop i text)) (white_join (drop i text)))
+pub returns-then-not-starts_with : goal.returns-then-not-starts_with
+returns-then-not-starts_with c =
+    let next = c.past_white-next.result in
+    reads_as MiscForm MiscForm _ _ (Some next) (onward MiscForm _ _ _ c.loop-next.invariant (white_step _ _ c.past_white-next.ensures.is))
+    (misc_ends next.now c.past_white-next.ensures.is.stops (search rules))
 
-pub returns-then-not-comment_begins : goal.returns-then-not-comment_begins
-returns-then-not-comment_begins c =
-    let text = c.args.text.now in
-    let next = c.span-next.result in
-    let e = c.span-next.ensures in
-    let l = e.after in
-    let same = past_white text c.args.at c.loop-at.i next c.loop-at.invariant.2 e in
-    let n = c.if-not-comment_begins.ensures in
-    record { after = omega arith; within = e.within; is = (same (drop next text)).1 (misc_none (drop next text) e.is.stops n); only = λ ys f. misc_only (drop next text) ys e.is.stops n ((same ys).0 f) }
+pub returns-in_err-left : goal.returns-in_err-left
+returns-in_err-left c =
+    reads_none MiscForm _ _ c.from_residual.ensures
+    (reads_as MiscForm MiscForm _ _ None (onward MiscForm _ _ _ c.loop-next.invariant (white_step _ _ c.past_white-next.ensures.is))
+    (note_none _ (search rules) c.in_err-left.ensures.reads))
 
-pub returns-in_err-i : goal.returns-in_err-i
-returns-in_err-i c =
-    let text = c.args.text.now in
-    let next = c.span-next.result in
-    let same = past_white text c.args.at c.loop-at.i next c.loop-at.invariant.2 c.span-next.ensures in
-    reads_none MiscForm text c.args.at _ c.from_residual.ensures
-    (λ ys f. let p = note_split (drop next text) ys c.if-not-comment_begins.ensures ((same ys).0 f) in c.in_err-i.ensures.reads p.0 p.1)
-
-pub loop-at-preserved : goal.loop-at-preserved
-loop-at-preserved c =
-    let text = c.args.text.now in
-    let next = c.span-next.result in
-    let e = c.span-next.ensures in
-    let l = e.after in
-    let same = past_white text c.args.at c.loop-at.i next c.loop-at.invariant.2 e in
-    let k = c.in_ok-i.ensures.reads in
-    let m = k.after in
-    (omega arith, k.within, onward MiscForm text c.args.at next c.in_ok-i.i same (step CommentForm MiscForm text next c.in_ok-i.i k (λ ys. note_split (drop next text) ys c.if-not-comment_begins.ensures) (note_join (drop next text))))
+pub loop-next-preserved : goal.loop-next-preserved
+loop-next-preserved c =
+    onward MiscForm _ _ _ c.loop-next.invariant
+    (onward MiscForm _ _ _ (white_step _ _ c.past_white-next.ensures.is) (note_step _ _ (search rules) c.in_ok-left.ensures.reads))

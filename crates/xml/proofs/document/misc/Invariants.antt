@@ -1,9 +1,10 @@
-use Rattle.std.proofs.Common.{ℕ, ◌-◌, ◌≤◌, ◌↔◌, List, length, drop}
+use Rattle.std.proofs.Common.{length}
 use Rattle.xml.specs.Forms.{MiscForm}
+use Rattle.xml.proofs.Steps.{Same}
 use Rattle.xml.proofs.document.misc.Given as goal
 
-abbrev pub invariant-loop-at : goal.invariant-loop-at
-invariant-loop-at l = (l.at ≤ l.i) × (l.i ≤ length l.text) × ((ys : List ℕ) → MiscForm (drop l.at l.text) ys ↔ MiscForm (drop l.i l.text) ys)
+abbrev pub invariant-loop-next : goal.invariant-loop-next
+invariant-loop-next l = Same MiscForm l.text MiscForm l.left
 
-abbrev pub decreases-loop-at : goal.decreases-loop-at
-decreases-loop-at l = length l.text - l.i
+abbrev pub decreases-loop-next : goal.decreases-loop-next
+decreases-loop-next l = length l.left

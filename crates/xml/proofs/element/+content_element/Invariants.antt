@@ -1,5 +1,6 @@
-use Rattle.std.proofs.Common.{ℕ, ◌+◌, ◌-◌, ◌*◌, ◌≤◌, ◌↔◌, List, length, drop}
+use Rattle.std.proofs.Common.{◌+◌, ◌*◌, length}
 use Rattle.xml.specs.Forms.{ContentForm}
+use Rattle.xml.proofs.Steps.{Same}
 use Rattle.xml.proofs.element.+content_element.Given as goal
 
 abbrev pub decreases-content : goal.decreases-content
@@ -9,7 +10,7 @@ abbrev pub decreases-element : goal.decreases-element
 decreases-element l = 2 * l.depth
 
 abbrev pub invariant-content-loop-next : goal.invariant-content-loop-next
-invariant-content-loop-next l = (l.at ≤ l.i) × (l.i ≤ length l.text) × ((ys : List ℕ) → ContentForm l.depth (drop l.at l.text) ys ↔ ContentForm l.depth (drop l.i l.text) ys)
+invariant-content-loop-next l = Same (ContentForm l.depth) l.text (ContentForm l.depth) l.left
 
 abbrev pub decreases-content-loop-next : goal.decreases-content-loop-next
-decreases-content-loop-next l = length l.text - l.i
+decreases-content-loop-next l = length l.left

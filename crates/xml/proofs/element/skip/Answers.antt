@@ -1,70 +1,48 @@
-use Rattle.std.proofs.Common.{◌≡◌, ℕ, ◌⊎◌, List, drop, sym, subst, ⊎_elim, arith}
-use Rattle.xml.specs.declared.lookahead.Lookahead.{Lookahead}
-use Rattle.xml.specs.declared.lookahead.Lookahead.TheVariants.{EndTag, End, Other}
+use Rattle.std.proofs.Common.{rules, ◌≡◌, ℕ, List, ◌∷◌, get_or, true, None, Some, sym, ap, ◌∙◌, subst}
 use Rattle.xml.specs.Bytes.{text_byte}
-use Rattle.xml.specs.Ahead.{ahead, Stops}
-use Rattle.xml.specs.Reads.{Span}
-use Rattle.xml.specs.Forms.{SkipForm, EntityForm, CommentForm}
-use Rattle.xml.proofs.Forms.{reads_none}
-use Rattle.xml.proofs.Contents.{step, onward, text_split, text_join, reference_split, reference_join, comment_split, comment_join, skip_none, skip_only}
+use Rattle.xml.specs.Ahead.{at_reference, at_comment, ahead, Stops}
+use Rattle.xml.specs.Forms.{SkipForm}
+use Rattle.xml.proofs.Steps.{Same, reads_as, reads_none, onward, first_more}
+use Rattle.xml.proofs.Contents.{text_step, reference_step, reference_none, comment_step, comment_none, skip_ends}
 use Rattle.xml.proofs.element.skip.Goals as goal
 
+-- what stops what is skipped
 abbrev Stop : List ℕ → Type 0
 Stop ys = Stops (ahead ys)
 
-stopped : (xs : List ℕ) (l : Lookahead) → l ≡ ahead xs → (l ≡ EndTag) ⊎ ((l ≡ End) ⊎ (l ≡ Other)) → Stop xs
-stopped xs l e h = subst Stops e (⊎_elim (λ p. subst Stops (sym p) tt) (λ r. ⊎_elim (λ p. subst Stops (sym p) tt) (λ p. subst Stops (sym p) tt) r) h)
+pub loop-left-preserved-in-len1-up : goal.loop-left-preserved-in-len1-up
+loop-left-preserved-in-len1-up c =
+    let left = c.loop-left.left.now in
+    let b = get_or left 0 0 in
+    let text : text_byte b ≡ true = search rules in
+    let s = c.past_text-left.ensures in
+    let P : List ℕ → Type 0 = λ l. Same SkipForm l SkipForm c.past_text-left.result.now in
+    let is = first_more left c.in-len1-up.len_at_least ∙ ap (λ l. b ∷ l) s.is in
+    onward SkipForm _ left _ c.loop-left.invariant (subst P (sym is) (text_step Stop 0 (λ ys z. z) (b ∷ s.run) _ (text, s.all)))
 
-pub loop-i-preserved-in-Text : goal.loop-i-preserved-in-Text
-loop-i-preserved-in-Text c =
-    let text = c.args.text.now in
-    let e = c.text_end-i.ensures in
-    let l = e.after in (
-      omega arith,
-      e.within,
-      onward SkipForm text c.args.at c.loop-i.i c.text_end-i.result c.loop-i.invariant.2
-          (step (Span text_byte) SkipForm text c.loop-i.i c.text_end-i.result e (text_split Stop 0 (λ ys s. s) (drop c.loop-i.i text)) (text_join Stop 0 (λ ys s. s) (drop c.loop-i.i text))),
-    )
+pub returns-in_err-left-in-38 : goal.returns-in_err-left-in-38
+returns-in_err-left-in-38 c =
+    let next : ahead c.loop-left.left.now ≡ at_reference = search rules in
+    reads_none SkipForm _ _ c.from_residual-in_err-left-in-38.ensures
+    (reads_as SkipForm SkipForm _ _ None c.loop-left.invariant (reference_none Stop 0 (λ ys z. z) _ next c.in_err-left-in-38.ensures.reads))
 
-pub returns-in_err-i-in-Reference : goal.returns-in_err-i-in-Reference
-returns-in_err-i-in-Reference c =
-    let text = c.args.text.now in
-    reads_none SkipForm text c.args.at _ c.from_residual.ensures
-    (λ ys f. let p = reference_split Stop 0 (λ ys s. s) (drop c.loop-i.i text) ys (sym c.in-Reference.ensures) ((c.loop-i.invariant.2 ys).0 f) in c.in_err-i-in-Reference.ensures.reads p.0 p.1)
+pub loop-left-preserved : goal.loop-left-preserved
+loop-left-preserved c =
+    let next : ahead c.loop-left.left.now ≡ at_reference = search rules in
+    onward SkipForm _ _ _ c.loop-left.invariant (reference_step Stop 0 (λ ys z. z) _ _ next c.in_ok-left-in-38.ensures.reads)
 
-pub loop-i-preserved-in-Reference : goal.loop-i-preserved-in-Reference
-loop-i-preserved-in-Reference c =
-    let text = c.args.text.now in
-    let i = c.loop-i.i in
-    let e = c.in_ok-i-in-Reference.ensures.reads in
-    let l = e.after in (
-      omega arith,
-      e.within,
-      onward SkipForm text c.args.at i c.in_ok-i-in-Reference.i c.loop-i.invariant.2
-          (step EntityForm SkipForm text i c.in_ok-i-in-Reference.i e (λ ys. reference_split Stop 0 (λ ys s. s) (drop i text) ys (sym c.in-Reference.ensures)) (reference_join Stop 0 (λ ys s. s) (drop i text))),
-    )
+pub returns-in_err-left-in-60 : goal.returns-in_err-left-in-60
+returns-in_err-left-in-60 c =
+    let next : ahead c.loop-left.left.now ≡ at_comment = search rules in
+    reads_none SkipForm _ _ c.from_residual.ensures (reads_as SkipForm SkipForm _ _ None c.loop-left.invariant (comment_none Stop 0 (λ ys z. z) _ next c.in_err-left-in-60.ensures.reads))
 
-pub returns-in_err-i-in-Comment : goal.returns-in_err-i-in-Comment
-returns-in_err-i-in-Comment c =
-    let text = c.args.text.now in
-    reads_none SkipForm text c.args.at _ c.from_residual-in_err-i-in-Comment.ensures
-    (λ ys f. let p = comment_split Stop 0 (λ ys s. s) (drop c.loop-i.i text) ys (sym c.in-Comment.ensures) ((c.loop-i.invariant.2 ys).0 f) in c.in_err-i-in-Comment.ensures.reads p.0 p.1)
+pub loop-left-preserved-in_ok-left-in-60 : goal.loop-left-preserved-in_ok-left-in-60
+loop-left-preserved-in_ok-left-in-60 c =
+    let next : ahead c.loop-left.left.now ≡ at_comment = search rules in
+    onward SkipForm _ _ _ c.loop-left.invariant (comment_step Stop 0 (λ ys z. z) _ _ next c.in_ok-left-in-60.ensures.reads)
 
-pub loop-i-preserved : goal.loop-i-preserved
-loop-i-preserved c =
-    let text = c.args.text.now in
-    let i = c.loop-i.i in
-    let e = c.in_ok-i-in-Comment.ensures.reads in
-    let l = e.after in (
-      omega arith,
-      e.within,
-      onward SkipForm text c.args.at i c.in_ok-i-in-Comment.i c.loop-i.invariant.2
-          (step CommentForm SkipForm text i c.in_ok-i-in-Comment.i e (λ ys. comment_split Stop 0 (λ ys s. s) (drop i text) ys (sym c.in-Comment.ensures)) (comment_join Stop 0 (λ ys s. s) (drop i text))),
-    )
-
-pub returns-in-EndTag : goal.returns-in-EndTag
-returns-in-EndTag c =
-    let text = c.args.text.now in
-    let i = c.loop-i.i in
-    let s = stopped (drop i text) c.at.result c.at.ensures c.in-EndTag.is in
-    record { after = omega arith; within = omega arith; is = (c.loop-i.invariant.2 (drop i text)).1 (skip_none (drop i text) s); only = λ ys f. skip_only (drop i text) ys s ((c.loop-i.invariant.2 ys).0 f) }
+pub returns-in_default : goal.returns-in_default
+returns-in_default c =
+    let left = c.loop-left.left in
+    let stops : Stops (ahead left.now) = search rules in
+    reads_as SkipForm SkipForm _ _ (Some left) c.loop-left.invariant (skip_ends left.now stops)

@@ -1,9 +1,10 @@
-use Rattle.std.proofs.Common.{ℕ, ◌-◌, ◌≤◌, ◌↔◌, List, length, drop}
+use Rattle.std.proofs.Common.{length}
 use Rattle.xml.specs.Forms.{SkipForm}
+use Rattle.xml.proofs.Steps.{Same}
 use Rattle.xml.proofs.element.skip.Given as goal
 
-abbrev pub invariant-loop-i : goal.invariant-loop-i
-invariant-loop-i l = (l.at ≤ l.i) × (l.i ≤ length l.text) × ((ys : List ℕ) → SkipForm (drop l.at l.text) ys ↔ SkipForm (drop l.i l.text) ys)
+abbrev pub invariant-loop-left : goal.invariant-loop-left
+invariant-loop-left l = Same SkipForm l.text SkipForm l.left
 
-abbrev pub decreases-loop-i : goal.decreases-loop-i
-decreases-loop-i l = length l.text - l.i
+abbrev pub decreases-loop-left : goal.decreases-loop-left
+decreases-loop-left l = length l.left

@@ -1,18 +1,17 @@
-use Rattle.std.proofs.Common.{sym, ◌∙◌, arith}
-use Rattle.xml.specs.Bytes.{name_start_byte}
-use Rattle.xml.specs.Reads.{is_in}
-use Rattle.xml.proofs.Steps.{begins_within}
-use Rattle.xml.proofs.Forms.{name_none, name_ends}
+use Rattle.std.proofs.Common.{rules, sym, ◌∙◌}
+use Rattle.std.proofs.lemmas.Bool.{both_ways}
+use Rattle.xml.specs.Bytes.{is_in}
+use Rattle.xml.proofs.Forms.{name_told, name_none}
 use Rattle.xml.proofs.tag.name.Goals as goal
+use Rattle.xml.proofs.tag.name.Goals.{in_default-via-then-name-lt1, in_default-via-in-len1-up+else-starts_name}
 
-pub overflow_add-at : goal.overflow_add-at
-overflow_add-at c = let h = begins_within name_start_byte c.args.text.now c.args.at (sym c.found.ensures ∙ c.if-not-found.false) in omega arith
+pub returns-in-len1-up : goal.returns-in-len1-up
+returns-in-len1-up c = name_told (is_in c.args.class) _ _ _ c.split.ensures c.in-len1-up.len_at_least (sym c.starts_name.ensures ∙ c.if-starts_name.true)
 
-pub span-requires : goal.span-requires
-span-requires c = let h = begins_within name_start_byte c.args.text.now c.args.at (sym c.found.ensures ∙ c.if-not-found.false) in omega arith
-
-pub returns-then-not-found : goal.returns-then-not-found
-returns-then-not-found c rest n = name_none (is_in c.args.class) _ rest (sym c.found.ensures ∙ c.if-not-found.true) n
-
-pub returns : goal.returns
-returns c = name_ends (is_in c.args.class) c.args.text.now c.args.at c.span.result (sym c.found.ensures ∙ c.if-not-found.false) c.span.ensures
+pub returns-in_default : goal.returns-in_default
+returns-in_default c =
+    name_none (is_in c.args.class) _ _ _ c.requires c.split.ensures
+    (elim c.in_default.branch [
+      | in_default-via-then-name-lt1 w ↦ λ h t. search rules
+      | in_default-via-in-len1-up+else-starts_name w ↦ λ h t. both_ways _ (sym w.starts_name.ensures ∙ w.if-starts_name.false) t
+    ])

@@ -1,39 +1,33 @@
-use Rattle.std.proofs.Common.{ℕ, [], ◌∷◌, None, subst}
+use Rattle.std.proofs.Common.{ℕ, List, [], ◌∷◌, Some, None}
 use Rattle.xml.specs.Bytes.{name_byte}
-use Rattle.xml.specs.Reads.{Literal, Then, Ends, Missing}
-use Rattle.xml.specs.Forms.{NameForm, TailForm}
-use Rattle.xml.specs.Parts.{StartForm, StartsAt}
-use Rattle.xml.proofs.Forms.{reads_then, missing_first, cases_none}
-use Rattle.xml.proofs.Comments.{literal_length}
+use Rattle.xml.specs.Forms.{NameForm, TailForm, Start}
+use Rattle.xml.proofs.Steps.{missing_first, reads_then, literal_reads, cases_none}
+use Rattle.xml.proofs.Forms.{name_ends}
+use Rattle.xml.proofs.Elements.{start_read, start_none}
 use Rattle.xml.proofs.tag.start_tag.Goals as goal
 
-pub returns-in_err-start : goal.returns-in_err-start
-returns-in_err-start c = cases_none _ (Missing StartForm c.args.text.now c.args.at) (StartsAt c.args.text.now c.args.at) c.from_residual.ensures (missing_first (Literal (60 ∷ [])) (Then (NameForm name_byte) TailForm) c.args.text.now c.args.at c.in_err-start.ensures)
+abbrev NoStart : List ℕ → Type 0
+NoStart xs = (name ys : List ℕ) → Start xs name ys → ⊥
 
-pub returns-in_err-name_end : goal.returns-in_err-name_end
-returns-in_err-name_end c =
+pub returns-in_err-name : goal.returns-in_err-name
+returns-in_err-name c =
     let text = c.args.text.now in
-    let start = c.in_ok-start.start in
-    cases_none _ (Missing StartForm c.args.text.now c.args.at) (StartsAt c.args.text.now c.args.at) c.from_residual-in_err-name_end.ensures
-    (reads_then (Literal (60 ∷ [])) (Then (NameForm name_byte) TailForm) text c.args.at start None c.in_ok-start.ensures
-    (missing_first (NameForm name_byte) TailForm text start c.in_err-name_end.ensures))
+    let body = c.in_ok-text.text in
+    cases_none _ (NoStart text) (λ p. Start text p.0.now p.1.now) c.from_residual-in_err-name.ensures
+    (start_none text body.now (literal_reads (60 ∷ []) text (Some body) c.in_ok-text.ensures.cases).is
+    (missing_first (NameForm name_byte) TailForm body.now (λ ys n. c.in_err-name.ensures n.0 ys n.1)))
 
-pub returns-in_err-end : goal.returns-in_err-end
-returns-in_err-end c =
+pub returns-in_err-tail : goal.returns-in_err-tail
+returns-in_err-tail c =
     let text = c.args.text.now in
-    let start = c.in_ok-start.start in
-    cases_none _ (Missing StartForm c.args.text.now c.args.at) (StartsAt c.args.text.now c.args.at) c.from_residual-in_err-end.ensures
-    (reads_then (Literal (60 ∷ [])) (Then (NameForm name_byte) TailForm) text c.args.at start None c.in_ok-start.ensures
-    (reads_then (NameForm name_byte) TailForm text start c.in_ok-name_end.name_end None c.in_ok-name_end.ensures c.in_err-end.ensures))
+    let body = c.in_ok-text.text in
+    let rest = c.in_ok-name.rest.now in
+    cases_none _ (NoStart text) (λ p. Start text p.0.now p.1.now) c.from_residual-in_err-tail.ensures
+    (start_none text body.now (literal_reads (60 ∷ []) text (Some body) c.in_ok-text.ensures.cases).is
+    (reads_then (NameForm name_byte) TailForm body.now rest None (name_ends name_byte body.now _ rest c.in_ok-name.ensures) c.in_err-tail.ensures))
 
 pub returns : goal.returns
 returns c =
     let text = c.args.text.now in
-    let e = literal_length (60 ∷ []) text c.args.at c.in_ok-start.start c.in_ok-start.ensures in
-    let B : ℕ → Type 0 = Ends (Literal (60 ∷ [])) text c.args.at in
-    let N : ℕ → Type 0 = λ n. Ends (NameForm name_byte) text n c.in_ok-name_end.name_end in
-    record {
-      bracket = subst B e c.in_ok-start.ensures;
-      name = subst N e c.in_ok-name_end.ensures;
-      tail = c.in_ok-end.ensures;
-    }
+    let body = c.in_ok-text.text in
+    start_read text body.now _ _ _ (literal_reads (60 ∷ []) text (Some body) c.in_ok-text.ensures.cases).is c.in_ok-name.ensures c.in_ok-tail.ensures.is

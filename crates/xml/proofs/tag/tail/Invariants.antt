@@ -1,9 +1,10 @@
-use Rattle.std.proofs.Common.{ℕ, ◌-◌, ◌≤◌, ◌↔◌, List, length, drop}
+use Rattle.std.proofs.Common.{length}
 use Rattle.xml.specs.Forms.{TailForm}
+use Rattle.xml.proofs.Steps.{Same}
 use Rattle.xml.proofs.tag.tail.Given as goal
 
-abbrev pub invariant-loop-at : goal.invariant-loop-at
-invariant-loop-at l = (l.at ≤ l.i) × (l.i ≤ length l.text) × ((ys : List ℕ) → TailForm (drop l.at l.text) ys ↔ TailForm (drop l.i l.text) ys)
+abbrev pub invariant-loop-space : goal.invariant-loop-space
+invariant-loop-space l = Same TailForm l.text TailForm l.left
 
-abbrev pub decreases-loop-at : goal.decreases-loop-at
-decreases-loop-at l = length l.text - l.i
+abbrev pub decreases-loop-space : goal.decreases-loop-space
+decreases-loop-space l = length l.left

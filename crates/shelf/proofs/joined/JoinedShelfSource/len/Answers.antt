@@ -3,7 +3,5 @@ use Rattle.shelf.specs.Meaning.{limit}
 use Rattle.shelf.proofs.Joints.{joined_length}
 use Rattle.shelf.proofs.joined.JoinedShelfSource.len.Goals as goal
 
-pub returns : goal.returns
-returns g c =
-    let l = joined_length (g.A.Source.bytes c.args.self.now.first) (g.B.Source.bytes c.args.self.now.second) limit in
-    record { value = omega (arith, l); bound = omega arith }
+pub returns-clause-value : goal.returns-clause-value
+returns-clause-value g c = omega (arith, joined_length (g.A.Source.bytes c.args.self.now.first) (g.B.Source.bytes c.args.self.now.second) limit)

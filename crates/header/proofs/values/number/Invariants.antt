@@ -1,0 +1,6 @@
+use Rattle.std.proofs.Common.{◌≡◌, ◌-◌, map, take}
+use Rattle.std.specs.Int.Digits.{number_from_digits}
+use Rattle.header.proofs.values.number.Given as goal
+
+abbrev pub invariant-loop-b : goal.invariant-loop-b
+invariant-loop-b l = l.n ≡ number_from_digits 10 (take l.b-index (map (λ b. b - 48) l.text))
