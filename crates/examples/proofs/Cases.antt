@@ -4,11 +4,8 @@ use Rattle.header.specs.Headers.NotStated.{lines}
 use Rattle.header.specs.Lines.LinesRefused.{other_type, malformed}
 use Rattle.header.proofs.Runs.{none_no_separator}
 use Rattle.header.proofs.Order.{refused_stage}
+use Rattle.xml.proofs.Steps.{heads}
 use Rattle.examples.specs.Headers.{OtherVersion, NoBlanks, DigitLimit}
-
--- lists that are the same begin with the same byte
-heads : {x y : ℕ} {xs ys : List ℕ} → x ∷ xs ≡ y ∷ ys → x ≡ y
-heads {x} {y} {xs} {ys} e = cc
 
 pub digit_limit : DigitLimit
 digit_limit text all = (λ e. record { some = omega arith; short = omega arith; digits = all }, λ e n. omega (arith, n.short))

@@ -25,7 +25,7 @@ white_byte b xs w ys = (λ f. to f f.tree f.good f.is, λ f. record { tree = spa
     to f (note body m) g e = absurd (both_ways (white b) (ap white (heads e)) w)
 
 pub white_step : (xs ys : List ℕ) → Span white xs ys → Same MiscForm xs MiscForm ys
-white_step xs ys s = subst (λ l. Same MiscForm l MiscForm ys) (sym s.is) (go s.run s.all)
+white_step xs ys s = subst (λ l. Same MiscForm l MiscForm ys) (sym s.longest.whole) (go s.run s.longest.all)
   where
     go : (run : List ℕ) → AllOf white run → Same MiscForm (run ++ ys) MiscForm ys
     go [] a = λ zs. (λ f. f, λ f. f)

@@ -6,11 +6,11 @@ use Rattle.xml.specs.Bytes.{AllOf, white, name_start_byte, value_byte}
 use Rattle.xml.specs.Reads.{Form, Literal, begins, Span, Ends, Then}
 use Rattle.xml.specs.Grammar.{IsName}
 use Rattle.xml.specs.Forms.{Named, NameForm, QuotedForm, ValueForm, EndForm}
-use Rattle.xml.proofs.Steps.{Same, tails, heads, same_run, run_unique, stops_here}
+use Rattle.xml.proofs.Steps.{span_is, Same, tails, heads, same_run, run_unique, run_stops}
 
 -- names
 pub name_told : (p : ℕ → Bool) (xs run ys : List ℕ) → LongestRun (λ b. p b ≡ true) xs run ys → 1 ≤ length run → name_start_byte (get_or run 0 0) ≡ true → Named p xs run ys
-name_told p xs run ys l h t = record { good = good run l.all h t; is = l.whole; stops = stops_here p ys l.stops }
+name_told p xs run ys l h t = record { good = good run l.all h t; is = l.whole; stops = run_stops p xs run ys l }
   where
     good : (run : List ℕ) → AllOf p run → 1 ≤ length run → name_start_byte (get_or run 0 0) ≡ true → IsName p run
     good [] a h t = omega (arith, h)
@@ -18,7 +18,7 @@ name_told p xs run ys l h t = record { good = good run l.all h t; is = l.whole; 
 
 -- none stands there, where the longest run does not begin as a name does
 pub name_none : (p : ℕ → Bool) (xs run ys : List ℕ) → ((b : ℕ) → name_start_byte b ≡ true → p b ≡ true) → LongestRun (λ b. p b ≡ true) xs run ys → (1 ≤ length run → name_start_byte (get_or run 0 0) ≡ true → ⊥) → (name zs : List ℕ) → Named p xs name zs → ⊥
-name_none p xs run ys sub l unnamed name zs n = go name n.good (run_unique p run name ys zs l.all (all name n.good) (stops_here p ys l.stops) n.stops (sym l.whole ∙ n.is)).0
+name_none p xs run ys sub l unnamed name zs n = go name n.good (run_unique p run name ys zs l.all (all name n.good) (run_stops p xs run ys l) n.stops (sym l.whole ∙ n.is)).0
   where
     all : (w : List ℕ) → IsName p w → AllOf p w
     all [] g = absurd g
@@ -49,8 +49,8 @@ value_same q xs quote ys = (
   λ v.
       let e : v.0 ≡ q = sym (heads v.2.is) in
       let f : QuotedForm q (q ∷ xs) ys = subst (λ z. QuotedForm z (q ∷ xs) ys) e v.2 in
-      (q ∷ ys, record { run = f.value; all = f.good; is = tails f.is; stops = quoted_stops q ys }, refl),
-  λ t. (q, quote, record { value = t.1.run; good = t.1.all; is = ap (λ l. q ∷ l) (t.1.is ∙ ap (λ l. t.1.run ++ l) t.2) }),
+      (q ∷ ys, span_is (value_byte q) xs f.value (q ∷ ys) f.good (tails f.is) (quoted_stops q ys), refl),
+  λ t. (q, quote, record { value = t.1.run; good = t.1.longest.all; is = ap (λ l. q ∷ l) (t.1.longest.whole ∙ ap (λ l. t.1.run ++ l) t.2) }),
 )
 
 -- end tags
@@ -59,9 +59,9 @@ EndChain name = Then (Literal (60 ∷ 47 ∷ [])) (Then (Literal name) (Then (Sp
 
 pub end_same : (name xs : List ℕ) → Same (EndForm name) xs (EndChain name) xs
 end_same name xs ys = (
-  λ f. (name ++ (f.space ++ (62 ∷ ys)), f.is, (f.space ++ (62 ∷ ys), refl, (62 ∷ ys, record { run = f.space; all = f.good; is = refl; stops = refl }, refl))),
+  λ f. (name ++ (f.space ++ (62 ∷ ys)), f.is, (f.space ++ (62 ∷ ys), refl, (62 ∷ ys, span_is white _ f.space _ f.good refl refl, refl))),
   λ t.
       let u = t.2 in
       let v = u.2 in
-      record { space = v.1.run; good = v.1.all; is = t.1 ∙ ap (λ l. 60 ∷ 47 ∷ l) (u.1 ∙ ap (λ l. name ++ l) (v.1.is ∙ ap (λ l. v.1.run ++ l) v.2)) },
+      record { space = v.1.run; good = v.1.longest.all; is = t.1 ∙ ap (λ l. 60 ∷ 47 ∷ l) (u.1 ∙ ap (λ l. name ++ l) (v.1.longest.whole ∙ ap (λ l. v.1.run ++ l) v.2)) },
 )

@@ -66,10 +66,7 @@ same_run p (x ∷ r) (y ∷ s) ys zs a b c d e = same_run p r s ys zs a.1 b.1 c 
 pub run_unique : (p : ℕ → Bool) (r s ys zs : List ℕ) → AllOf p r → AllOf p s → begins p ys ≡ false → begins p zs ≡ false → r ++ ys ≡ s ++ zs → (r ≡ s) × (ys ≡ zs)
 run_unique p r s ys zs a b c d e = let same = same_run p r s ys zs a b c d e in (append_cancel_right r s ys (e ∙ ap (λ l. s ++ l) same), sym same)
 
-pub span_only : (p : ℕ → Bool) (xs ys zs : List ℕ) → Span p xs ys → Span p xs zs → zs ≡ ys
-span_only p xs ys zs s t = same_run p s.run t.run ys zs s.all t.all s.stops t.stops (sym s.is ∙ t.is)
-
-pub stops_here : (p : ℕ → Bool) (ys : List ℕ) → ((x : ℕ) (rest : List ℕ) → ys ≡ x ∷ rest → p x ≡ true → ⊥) → begins p ys ≡ false
+stops_here : (p : ℕ → Bool) (ys : List ℕ) → ((x : ℕ) (rest : List ℕ) → ys ≡ x ∷ rest → p x ≡ true → ⊥) → begins p ys ≡ false
 stops_here p [] s = refl
 stops_here p (y ∷ ys) s = go (p y) refl
   where
@@ -77,9 +74,24 @@ stops_here p (y ∷ ys) s = go (p y) refl
     go true e = absurd (s y ys refl e)
     go false e = e
 
+-- what a longest run of bytes of the kind p stops at
+pub run_stops : (p : ℕ → Bool) (xs run ys : List ℕ) → LongestRun (λ b. p b ≡ true) xs run ys → begins p ys ≡ false
+run_stops p xs run ys l = stops_here p ys l.stops
+
+-- a run of bytes of the kind p in front of another byte is the longest
+pub span_is : (p : ℕ → Bool) (xs run ys : List ℕ) → AllOf p run → xs ≡ run ++ ys → begins p ys ≡ false → Span p xs ys
+span_is p xs run ys all whole stops = record {
+  run = run;
+  longest = record { whole = whole; all = all; stops = λ x rest e h. let other : p x ≡ false = sym (ap (begins p) e) ∙ stops in both_ways (p x) other h };
+}
+
+pub span_only : (p : ℕ → Bool) (xs ys zs : List ℕ) → Span p xs ys → Span p xs zs → zs ≡ ys
+span_only p xs ys zs s t =
+    same_run p s.run t.run ys zs s.longest.all t.longest.all (run_stops p xs s.run ys s.longest) (run_stops p xs t.run zs t.longest) (sym s.longest.whole ∙ t.longest.whole)
+
 -- the longest run that a class of bytes was split off
 pub longest : (p : ℕ → Bool) (xs run ys : List ℕ) → LongestRun (λ b. p b ≡ true) xs run ys → Span p xs ys
-longest p xs run ys l = record { run = run; all = l.all; is = l.whole; stops = stops_here p ys l.stops }
+longest p xs run ys l = record { run = run; longest = l }
 
 pub longest_ends : (p : ℕ → Bool) (xs run ys : List ℕ) → LongestRun (λ b. p b ≡ true) xs run ys → Ends (Span p) xs ys
 longest_ends p xs run ys l = let s = longest p xs run ys l in record { is = s; only = λ zs t. span_only p xs ys zs s t }
@@ -88,9 +100,11 @@ longest_ends p xs run ys l = let s = longest p xs run ys l in record { is = s; o
 pub span_more : (p : ℕ → Bool) (front xs ys : List ℕ) → AllOf p front → Span p xs ys → Span p (front ++ xs) ys
 span_more p front xs ys a s = record {
   run = front ++ s.run;
-  all = All-append (λ b. p b ≡ true) front s.run a s.all;
-  is = ap (λ l. front ++ l) s.is ∙ sym (append_assoc front s.run ys);
-  stops = s.stops;
+  longest = record {
+    whole = ap (λ l. front ++ l) s.longest.whole ∙ sym (append_assoc front s.run ys);
+    all = All-append (λ b. p b ≡ true) front s.run a s.longest.all;
+    stops = s.longest.stops;
+  };
 }
 
 -- every byte is of the kind p, as a fold over all of them tells

@@ -7,7 +7,7 @@ use Rattle.xml.specs.Bytes.{AllOf, white, name_start_byte, name_byte, attribute_
 use Rattle.xml.specs.Reads.{begins, Span, Ends, Missing}
 use Rattle.xml.specs.Grammar.{IsName, Attribute, attribute_text, GoodAttribute, attributes_text}
 use Rattle.xml.specs.Forms.{AttributeForm, TailForm}
-use Rattle.xml.proofs.Steps.{Same, longest, span_only}
+use Rattle.xml.proofs.Steps.{Same, longest, run_stops, span_is, span_only}
 
 -- the classes share no byte
 pub start_not_white : (b : ℕ) → name_start_byte b ≡ true → white b ≡ false
@@ -70,13 +70,13 @@ body_form a g rest =
       (a.name, record { good = g.name; is = refl; stops = past_white attribute_byte (white_not attribute_byte refl refl refl refl) a.before (61 ∷ value) g.before refl }),
       (
         61 ∷ value,
-        record { run = a.before; all = g.before; is = refl; stops = refl },
+        span_is white _ a.before _ g.before refl refl,
         (
           value,
           refl,
           (
             last,
-            record { run = a.after; all = g.after; is = refl; stops = begins_quote a.quote (a.value ++ (a.quote ∷ rest)) g.quote },
+            span_is white _ a.after _ g.after refl (begins_quote a.quote (a.value ++ (a.quote ∷ rest)) g.quote),
             (a.quote, g.quote, record { value = a.value; good = g.value; is = refl }),
           ),
         ),
@@ -91,13 +91,13 @@ form_body gap xs ys h all f =
     let f3 = f2.2 in
     let v = f3.2 in (
       record { gap = gap; name = n.0; before = f1.1.run; after = f3.1.run; quote = v.0; value = v.2.value },
-      record { apart = h; gap = all; name = n.1.good; before = f1.1.all; after = f3.1.all; quote = v.1; value = v.2.good },
-      ap (λ l. gap ++ l) (n.1.is ∙ ap (λ l. n.0 ++ l) (f1.1.is ∙ ap (λ l. f1.1.run ++ l) (f2.1 ∙ ap (λ l. 61 ∷ l) (f3.1.is ∙ ap (λ l. f3.1.run ++ l) v.2.is)))),
+      record { apart = h; gap = all; name = n.1.good; before = f1.1.longest.all; after = f3.1.longest.all; quote = v.1; value = v.2.good },
+      ap (λ l. gap ++ l) (n.1.is ∙ ap (λ l. n.0 ++ l) (f1.1.longest.whole ∙ ap (λ l. f1.1.run ++ l) (f2.1 ∙ ap (λ l. 61 ∷ l) (f3.1.longest.whole ∙ ap (λ l. f3.1.run ++ l) v.2.is)))),
     )
 
 -- the white space that begins the rest of a tag, and then the tag's end
 pub tail_stop : (xs zs : List ℕ) → Span white xs zs → begins tag_end zs ≡ true → TailForm xs zs
-tail_stop xs zs s t = record { attributes = []; space = s.run; good = tt; white = s.all; is = s.is; ends = t }
+tail_stop xs zs s t = record { attributes = []; space = s.run; good = tt; white = s.longest.all; is = s.longest.whole; ends = t }
 
 -- the first attribute, where the tag does not end after the white space
 pub record First (xs zs ys : List ℕ) : Type 0 where
@@ -110,11 +110,11 @@ pub tail_first : (xs zs ys : List ℕ) → Span white xs zs → TailForm xs ys �
 tail_first xs zs ys s f = go f.attributes f.good f.is
   where
     go : (as' : List Attribute) → AllByRecursion GoodAttribute as' → xs ≡ attributes_text as' (f.space ++ ys) → (ys ≡ zs) ⊎ (First xs zs ys × (begins tag_end zs ≡ false))
-    go [] g e = inl (span_only white xs zs ys s (record { run = f.space; all = f.white; is = e; stops = begins_not tag_end white end_not_white ys f.ends }))
+    go [] g e = inl (span_only white xs zs ys s (span_is white xs f.space ys f.white e (begins_not tag_end white end_not_white ys f.ends)))
     go (a ∷ more) g e =
         let rest = attributes_text more (f.space ++ ys) in
         let named = begins_name attribute_byte a.name (a.before ++ (61 ∷ (a.after ++ (a.quote ∷ (a.value ++ (a.quote ∷ rest)))))) g.0.name in
-        let same : body a rest ≡ zs = span_only white xs zs (body a rest) s (record { run = a.gap; all = g.0.gap; is = e; stops = begins_not name_start_byte white start_not_white (body a rest) named }) in
+        let same : body a rest ≡ zs = span_only white xs zs (body a rest) s (span_is white xs a.gap (body a rest) g.0.gap e (begins_not name_start_byte white start_not_white (body a rest) named)) in
         inr (
           record {
             rest = rest;
@@ -143,7 +143,7 @@ tail_none xs run zs l none t ys f = both_ways _ (go run l.whole none) (tail_more
     s = longest white xs run zs l
 
     go : (run : List ℕ) → xs ≡ run ++ zs → length run ≡ 0 → begins white xs ≡ false
-    go [] e h = ap (begins white) e ∙ s.stops
+    go [] e h = ap (begins white) e ∙ run_stops white xs _ zs l
     go (b ∷ run) e h = absurd (omega (arith, h))
 
 -- behind white space and an attribute the rest of the tag goes on

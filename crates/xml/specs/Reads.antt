@@ -1,8 +1,8 @@
 -- What it is to read something that a text begins with.
 -- A form relates two lists: the first begins with a thing of the form, and the second is what is left behind it.
 use Rattle.std.specs.Borrow.{Bor}
-use Rattle.std.specs.Prelude.{◌≡◌, ℕ, Bool, false, List, [], ◌∷◌, ◌++◌, Option, MatchOption}
-use Rattle.xml.specs.Bytes.{AllOf}
+use Rattle.std.specs.Prelude.{◌≡◌, ℕ, Bool, true, false, List, [], ◌∷◌, ◌++◌, Option, MatchOption}
+use Rattle.classes.specs.Runs.{LongestRun}
 
 -- what a thing is written as: the text that begins with it, and the rest
 abbrev pub Form : Type 1
@@ -45,9 +45,7 @@ begins p (b ∷ bs) = p b
 -- the longest run of bytes of the kind p
 pub record Span (p : ℕ → Bool) (xs ys : List ℕ) : Type 0 where
   pub run : List ℕ
-  pub all : AllOf p run
-  pub is : xs ≡ run ++ ys
-  pub stops : begins p ys ≡ false
+  pub longest : LongestRun (λ b. p b ≡ true) xs run ys
 
 -- one thing, and then another
 abbrev pub Then : Form → Form → Form

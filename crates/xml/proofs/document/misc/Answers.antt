@@ -1,6 +1,7 @@
 use Rattle.std.proofs.Common.{rules, None, Some}
 use Rattle.xml.specs.Forms.{MiscForm}
-use Rattle.xml.proofs.Steps.{reads_as, reads_none, onward}
+use Rattle.xml.specs.Bytes.{white}
+use Rattle.xml.proofs.Steps.{reads_as, reads_none, onward, run_stops}
 use Rattle.xml.proofs.Documents.{white_step, note_step, note_none, misc_ends}
 use Rattle.xml.proofs.document.misc.Goals as goal
 
@@ -8,7 +9,7 @@ pub returns-then-not-starts_with : goal.returns-then-not-starts_with
 returns-then-not-starts_with c =
     let next = c.past_white-next.result in
     reads_as MiscForm MiscForm _ _ (Some next) (onward MiscForm _ _ _ c.loop-next.invariant (white_step _ _ c.past_white-next.ensures.is))
-    (misc_ends next.now c.past_white-next.ensures.is.stops (search rules))
+    (misc_ends next.now (run_stops white _ _ next.now c.past_white-next.ensures.is.longest) (search rules))
 
 pub returns-in_err-left : goal.returns-in_err-left
 returns-in_err-left c =

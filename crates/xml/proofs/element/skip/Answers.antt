@@ -17,8 +17,8 @@ loop-left-preserved-in-len1-up c =
     let text : text_byte b ≡ true = search rules in
     let s = c.past_text-left.ensures in
     let P : List ℕ → Type 0 = λ l. Same SkipForm l SkipForm c.past_text-left.result.now in
-    let is = first_more left c.in-len1-up.len_at_least ∙ ap (λ l. b ∷ l) s.is in
-    onward SkipForm _ left _ c.loop-left.invariant (subst P (sym is) (text_step Stop 0 (λ ys z. z) (b ∷ s.run) _ (text, s.all)))
+    let is = first_more left c.in-len1-up.len_at_least ∙ ap (λ l. b ∷ l) s.longest.whole in
+    onward SkipForm _ left _ c.loop-left.invariant (subst P (sym is) (text_step Stop 0 (λ ys z. z) (b ∷ s.run) _ (text, s.longest.all)))
 
 pub returns-in_err-left-in-38 : goal.returns-in_err-left-in-38
 returns-in_err-left-in-38 c =
