@@ -19,7 +19,7 @@ pub same_key : (k o : Key) → code k ≡ code o → k ≡ o
 same_key k o e = search rules
 
 -- the key of code i + 1 stands at i
-key_at : (k : Key) → get_or keys (code k - 1) XmlSize ≡ k
+pub key_at : (k : Key) → get_or keys (code k - 1) XmlSize ≡ k
 key_at k = search rules
 
 code_at : (i : ℕ) → i < 10 → code (get_or keys i XmlSize) ≡ i + 1

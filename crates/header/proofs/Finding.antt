@@ -1,5 +1,5 @@
 -- The lines that entries stand for, and the line of one key.
-use Rattle.std.proofs.Common.{◌≡◌, ℕ, ◌<◌, List, [], map, length, get_or, take, Bor, Some, None, Option, MatchOption, Decides, is_some, sym, refl, ap, ◌∙◌, arith}
+use Rattle.std.proofs.Common.{◌≡◌, ℕ, ◌<◌, List, [], map, length, get_or, take, Bor, Some, None, Option, MatchOption, Decides, is_some, sym, refl, ap, ◌∙◌, subst, arith}
 use Rattle.std.specs.List.{AllWithin, HoldsAt}
 use Rattle.std.proofs.lemmas.List.{length-map, get_or-map, get_or-take, length-take-le}
 use Rattle.header.specs.declared.entries.Entry.{Entry}
@@ -29,18 +29,21 @@ line_at_before es j i lt within =
     line_at_entry (take j es) i (omega (arith, length-take-le j es)) ∙ ap line_of (get_or-take j es i blank lt) ∙ sym (line_at_entry es i (omega arith))
 
 -- whether the key of line j stood before, by a search in the lines before it
-pub stood_before : (es : List Entry) (j : ℕ) (key : List ℕ) (r : Option (Bor Entry)) → j < length es → key ≡ (get_or es j blank).key.now
-    → MatchOption r (Absent (map line_of (take j es)) key) (λ e. LineOf (map line_of (take j es)) key (line_of e.now))
+pub stood_before : (es before : List Entry) (j : ℕ) (key : List ℕ) (r : Option (Bor Entry)) → before ≡ take j es → j < length es → key ≡ (get_or es j blank).key.now
+    → MatchOption r (Absent (map line_of before) key) (λ e. LineOf (map line_of before) key (line_of e.now))
     → Decides (is_some r) (Repeats (map line_of es) j)
-stood_before es j key None within k a = (
-  λ e. absurd cc,
-  λ r. absurd (a r.0 (record {
-    within = omega (arith, r.1, length-map (take j es) line_of, length-take-le j es);
-    named = ap (λ z. z.key) (line_at_before es j r.0 r.1 within) ∙ r.2 ∙ ap (λ z. z.key) (line_at_entry es j within) ∙ sym k;
-  })),
-)
-stood_before es j key (Some x) within k l =
-    let before : l.i < j = omega (arith, l.line.within, length-map (take j es) line_of, length-take-le j es) in (
-      λ _. (l.i, before, ap (λ z. z.key) (sym (line_at_before es j l.i before within)) ∙ l.line.named ∙ k ∙ ap (λ z. z.key) (sym (line_at_entry es j within))),
-      λ _. refl,
+stood_before es before j key r same within k h = go r (subst (λ l. MatchOption r (Absent (map line_of l) key) (λ e. LineOf (map line_of l) key (line_of e.now))) same h)
+  where
+    go : (r : Option (Bor Entry)) → MatchOption r (Absent (map line_of (take j es)) key) (λ e. LineOf (map line_of (take j es)) key (line_of e.now)) → Decides (is_some r) (Repeats (map line_of es) j)
+    go None a = (
+      λ e. absurd cc,
+      λ r. absurd (a r.0 (record {
+        within = omega (arith, r.1, length-map (take j es) line_of, length-take-le j es);
+        named = ap (λ z. z.key) (line_at_before es j r.0 r.1 within) ∙ r.2 ∙ ap (λ z. z.key) (line_at_entry es j within) ∙ sym k;
+      })),
     )
+    go (Some x) l =
+        let earlier : l.i < j = omega (arith, l.line.within, length-map (take j es) line_of, length-take-le j es) in (
+          λ _. (l.i, earlier, ap (λ z. z.key) (sym (line_at_before es j l.i earlier within)) ∙ l.line.named ∙ k ∙ ap (λ z. z.key) (sym (line_at_entry es j within))),
+          λ _. refl,
+        )

@@ -2,7 +2,7 @@
 use Rattle.std.proofs.Common.{◌≡◌, ℕ, ◌+◌, ◌<◌, ◌≤◌, List, length, Option, Some, None, sym, refl, ap, ◌∙◌, subst, ⊎_elim, arith}
 use Rattle.std.proofs.lemmas.Bool.{cases_order, cases_lt}
 use Rattle.shelf.specs.declared.refusal.Refusal.{Refusal}
-use Rattle.header.specs.Lines.{HeaderLine, LineOf, Holds, Stands, Distinct, line_at}
+use Rattle.header.specs.Lines.{HeaderLine, Named, LineOf, Holds, Stands, Distinct, line_at}
 use Rattle.header.specs.Keys.{code, name, last_number, Numeral, HasNumber, NotNumber, NumbersRefused, Block, BlockRefused, Support}
 use Rattle.header.specs.Keys.BlockRefused.{no_size, no_place}
 use Rattle.header.specs.declared.keys.Key.{Key}
@@ -15,22 +15,25 @@ abbrev pub RightBelow : List HeaderLine → ℕ → Type 0
 RightBelow ls n = (o : Key) → code o < n → NotNumber ls o → ⊥
 
 -- where no key stands twice, a key has one line
-one_line : (ls : List HeaderLine) (n : List ℕ) (l m : HeaderLine) → Distinct ls → LineOf ls n l → LineOf ls n m → l ≡ m
-one_line ls n l m d a b =
-    let keys : (line_at ls a.i).key ≡ (line_at ls b.i).key = a.line.named ∙ sym b.line.named in
-    ⊎_elim (λ e. sym a.is ∙ ap (line_at ls) e ∙ b.is)
-    (⊎_elim (λ lt. absurd (d b.i b.line.within (a.i, lt, keys)))
-    (λ gt. absurd (d a.i a.line.within (b.i, gt, sym keys))))
-    (cases_order a.i b.i)
+pub one_line : (ls : List HeaderLine) (n : List ℕ) (i j : ℕ) → Distinct ls → Named ls n i → Named ls n j → i ≡ j
+one_line ls n i j d a b =
+    ⊎_elim (λ e. e)
+    (⊎_elim (λ lt. absurd (d j b.within (i, lt, a.named ∙ sym b.named)))
+    (λ gt. absurd (d i a.within (j, gt, b.named ∙ sym a.named))))
+    (cases_order i j)
+
+-- which says one thing
+pub same_line : (ls : List HeaderLine) (n : List ℕ) (l m : HeaderLine) → Distinct ls → LineOf ls n l → LineOf ls n m → l ≡ m
+same_line ls n l m d a b = sym a.is ∙ ap (line_at ls) (one_line ls n a.i b.i d a.line b.line) ∙ b.is
 
 -- and so one value
 pub one_value : (ls : List HeaderLine) (n v w : List ℕ) → Distinct ls → Holds ls n v → Holds ls n w → v ≡ w
-one_value ls n v w d a b = sym a.holds ∙ ap (λ l. l.value) (one_line ls n a.l b.l d a.line b.line) ∙ b.holds
+one_value ls n v w d a b = sym a.holds ∙ ap (λ l. l.value) (same_line ls n a.l b.l d a.line b.line) ∙ b.holds
 
 -- which stands in one place
 pub one_extent : (ls : List HeaderLine) (n : List ℕ) (x y : Extent) → Distinct ls → Stands ls n x → Stands ls n y → x ≡ y
 one_extent ls n x y d a b =
-    let e = one_line ls n a.l b.l d a.line b.line in
+    let e = same_line ls n a.l b.l d a.line b.line in
     let p : x.place ≡ y.place = a.place ∙ ap (λ l. l.place + length l.key + 4) e ∙ sym b.place in
     let s : x.size ≡ y.size = a.size ∙ ap (λ l. length l.value) e ∙ sym b.size in
     λ i. record { place = p i; size = s i }

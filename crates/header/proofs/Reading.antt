@@ -5,9 +5,8 @@ use Rattle.std.proofs.lemmas.Bool.Decides.{Decides-eqb}
 use Rattle.std.proofs.lemmas.List.{drop_at, drop-drop, take_rest}
 use Rattle.std.proofs.lemmas.Slice.Eq.{starts_is}
 use Rattle.header.specs.Lines.{Begins, written, LineIs, NoLine, OnlyLine, HeaderLine, line_size, Follow, HeaderText, Malformed, file_type, lines_start, most_lines, terminator}
-use Rattle.header.proofs.Runs.{terminator_no_line}
 
-follow_more : (bs : List ℕ) (p q : ℕ) (ls : List HeaderLine) (k v : List ℕ) → Follow bs p ls q → LineIs (drop q bs) k v → Follow bs p (ls ++ record { place = q; key = k; value = v } ∷ []) (q + length (written k v))
+pub follow_more : (bs : List ℕ) (p q : ℕ) (ls : List HeaderLine) (k v : List ℕ) → Follow bs p ls q → LineIs (drop q bs) k v → Follow bs p (ls ++ record { place = q; key = k; value = v } ∷ []) (q + length (written k v))
 follow_more bs p q [] k v f l = (sym f, subst (λ n. LineIs (drop n bs) k v) (sym f) l, ap (λ n. n + length (written k v)) f)
 follow_more bs p q (x ∷ ls) k v f l = (f.0, f.1, follow_more bs (p + line_size x) q ls k v f.2 l)
 
@@ -18,15 +17,6 @@ pub record Read (head : List ℕ) (ls : List HeaderLine) (end : ℕ) (rest : Lis
   pub few : length ls ≤ most_lines
   pub short : end + length rest ≡ length head
   pub behind : drop end head ≡ rest
-
-pub read_none : (head rest : List ℕ) → head ≡ file_type ++ rest → Read head [] lines_start rest
-read_none head rest e = record {
-  begins = (rest, e);
-  lines = refl;
-  few = omega arith;
-  short = sym (ap length e ∙ length-append file_type rest);
-  behind = ap (drop lines_start) e;
-}
 
 module _ {head : List ℕ} {ls : List HeaderLine} {end : ℕ} {rest : List ℕ} (r : Read head ls end rest) where
   pub read_more : (k v behind : List ℕ) → OnlyLine rest k v behind → length ls < most_lines → Read head (ls ++ record { place = end; key = k; value = v } ∷ []) (length head - length behind) behind
@@ -45,20 +35,9 @@ module _ {head : List ℕ} {ls : List HeaderLine} {end : ℕ} {rest : List ℕ} 
   pub read_all : Begins (drop end head) terminator → HeaderText head ls end
   read_all e = record { begins = r.begins; lines = r.lines; few = r.few; ends = e }
 
-  -- neither the terminator nor a line follows
-  pub read_wrong : NoLine rest → (Begins (drop end head) terminator → ⊥) → Malformed head end
-  read_wrong no_line no_end = record { before = ls; begins = r.begins; lines = r.lines; few = r.few; no_end = no_end; no_line = λ h. subst NoLine (sym r.behind) no_line }
-
-  -- one line too many follows
-  pub read_full : (k v behind : List ℕ) → OnlyLine rest k v behind → length ls ≡ most_lines → Malformed head end
-  read_full k v behind l full = record {
-    before = ls;
-    begins = r.begins;
-    lines = r.lines;
-    few = r.few;
-    no_end = λ e. terminator_no_line rest k v (subst (λ z. Begins z terminator) r.behind e) l.is;
-    no_line = λ h. absurd (omega arith);
-  }
+  -- the terminator does not follow, nor a line, unless it is one too many
+  pub read_wrong : (length ls < most_lines → NoLine rest) → (Begins (drop end head) terminator → ⊥) → Malformed head end
+  read_wrong no_line no_end = record { before = ls; begins = r.begins; lines = r.lines; few = r.few; no_end = no_end; no_line = λ h. subst NoLine (sym r.behind) (no_line h) }
 
 -- what `starts_with` says of `&bs[p..]`
 pub ends_at : (bs : List ℕ) (p : ℕ) (r : Bool) → r ≡ starts_with ◌==◌ (take (length bs - p) (drop p bs)) terminator → Decides r (Begins (drop p bs) terminator)

@@ -7,7 +7,7 @@ use Rattle.header.specs.Lines.{Begins, written, LineIs, NoLine, OnlyLine, termin
 use Rattle.header.specs.declared.text.Class.TheVariants.{Key, Value}
 
 -- a run up to a byte that is not of P is the longest one
-ran_is : (P : ℕ → Type 0) (bs front back k t : List ℕ) (x : ℕ) → LongestRun P bs front back → AllByRecursion P k → (P x → ⊥) → bs ≡ k ++ x ∷ t → (front ≡ k) × (back ≡ x ∷ t)
+pub ran_is : (P : ℕ → Type 0) (bs front back k t : List ℕ) (x : ℕ) → LongestRun P bs front back → AllByRecursion P k → (P x → ⊥) → bs ≡ k ++ x ∷ t → (front ≡ k) × (back ≡ x ∷ t)
 ran_is P bs front back k t x r ak nx e = go front k r.all ak (sym r.whole ∙ e)
   where
     go : (f k : List ℕ) → AllByRecursion P f → AllByRecursion P k → f ++ back ≡ k ++ x ∷ t → (f ≡ k) × (back ≡ x ∷ t)
@@ -21,19 +21,19 @@ ran_is P bs front back k t x r ak nx e = go front k r.all ak (sym r.whole ∙ e)
         let same : y ∷ f ≡ z ∷ k = cc (rest.0, first) in
         (same, rest.1)
 
-not_key_32 : In Key 32 → ⊥
+pub not_key_32 : In Key 32 → ⊥
 not_key_32 h = omega arith
 
-not_value_10 : In Value 10 → ⊥
+pub not_value_10 : In Value 10 → ⊥
 not_value_10 h = omega arith
 
 -- the line as it lies in the bytes
-written_laid : (key value rest : List ℕ) → written key value ++ rest ≡ key ++ (32 ∷ 58 ∷ 61 ∷ 32 ∷ (value ++ 10 ∷ rest))
+pub written_laid : (key value rest : List ℕ) → written key value ++ rest ≡ key ++ (32 ∷ 58 ∷ 61 ∷ 32 ∷ (value ++ 10 ∷ rest))
 written_laid key value rest = simp append_assoc
 
 module _ {bs front back : List ℕ} (ran : LongestRun (In Key) bs front back) where
   -- where a line stands, the key's run is its key, and behind it stands the rest of the line
-  key_is : (key value : List ℕ) → LineIs bs key value → (rest : List ℕ) × (front ≡ key) × (back ≡ 32 ∷ 58 ∷ 61 ∷ 32 ∷ (value ++ 10 ∷ rest))
+  pub key_is : (key value : List ℕ) → LineIs bs key value → (rest : List ℕ) × (front ≡ key) × (back ≡ 32 ∷ 58 ∷ 61 ∷ 32 ∷ (value ++ 10 ∷ rest))
   key_is key value l =
       let r = ran_is (In Key) bs front back key _ 32 ran l.key_bytes not_key_32 (l.stands.1 ∙ written_laid key value l.stands.0) in
       (l.stands.0, r.0, r.1)

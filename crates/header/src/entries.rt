@@ -1,8 +1,8 @@
 // The lines of a header, as entries of a key and a value.
 // A header is the file type, at most 32 lines and the terminator, which may stand where the 33rd line would.
 // A line that does not end before the file or the header's limit does is malformed.
-ghost use Rattle.std.specs.Prelude.{◌≡◌, ◌+◌, ◌≤◌, map, length, MatchOption, MatchResult};
-ghost use Rattle.header.specs.Lines.{header_limit, Distinct, RepeatedRefused, HeaderText, LinesRefused, Absent, LineOf};
+ghost use Rattle.std.specs.Prelude.{◌≡◌, ◌+◌, ◌≤◌, [], ◌++◌, map, length, MatchOption, MatchResult};
+ghost use Rattle.header.specs.Lines.{header_limit, file_type, Distinct, RepeatedRefused, HeaderText, LinesRefused, Absent, LineOf};
 ghost use Rattle.header.specs.Entries.{line_of, lines_of};
 
 use crate::extent::Extent;
@@ -21,9 +21,9 @@ const MOST_LINES: usize = 32;
 // The default fills the places that are not in use.
 #[derive(Clone, Copy, Default)]
 pub(crate) struct Entry<'a> {
-    pub place: u32,
     pub key: &'a [u8],
     pub value: &'a [u8],
+    pub place: u32,
 }
 
 // The entries of a header's lines, and where its terminator stands.
@@ -47,28 +47,36 @@ impl<'a> Entry<'a> {
 }
 
 impl<'a> Entries<'a> {
-    // The entries of the header that `head` begins with.
-    pub(crate) fn read(head: &'a [u8]) -> Result<Entries<'a>, Refusal>
-        requires { length head.now ≤ header_limit }
-        ensures { MatchResult result (λ t. HeaderText head.now (lines_of t) t.end) (λ e. LinesRefused head.now e) }
+    // No lines.
+    pub(crate) fn new() -> Entries<'a>
+        ensures { lines_of result ≡ [] }
     {
-        let text = head.strip_prefix(FILE_TYPE).ok_or(Reason::NotCphd.at(0))?;
-        let mut all = ArrayVec::new();
-        let mut end = FILE_TYPE.len();
-        for line in Lines::new(text) {
-            let entry = Entry {
-                place: end as u32,
+        Entries {
+            all: ArrayVec::new(),
+            end: 0,
+        }
+    }
+
+    // Reads the entries of the header that `head` begins with, in place of those that stood here; `text` follows its file type.
+    pub(crate) fn read(&mut self, head: &'a [u8], text: &'a [u8]) -> Result<(), Refusal>
+        requires short { length head.now ≤ header_limit }
+        requires begins { head.now ≡ file_type ++ text.now }
+        ensures { MatchResult result (λ _. HeaderText head.now (lines_of self.new) self.new.end) (λ e. LinesRefused head.now e) }
+    {
+        self.all.clear();
+        self.end = FILE_TYPE.len();
+        for line in Lines::new(text).take(MOST_LINES) {
+            self.all.push(Entry {
                 key: line.key,
                 value: line.value,
-            };
-            all.try_push(entry)
-                .map_err(|_| Reason::LineMalformed.at(end as u64))?;
-            end = head.len() - line.rest.len();
+                place: self.end as u32,
+            });
+            self.end = head.len() - line.rest.len();
         }
-        if !head[end..].starts_with(&TERMINATOR) {
-            return Err(Reason::LineMalformed.at(end as u64));
+        if !head[self.end..].starts_with(&TERMINATOR) {
+            return Err(Reason::LineMalformed.at(self.end as u64));
         }
-        Ok(Entries { all, end })
+        Ok(())
     }
 
     // Refused with the place of the first line whose key stood before.

@@ -6,11 +6,11 @@ ghost use Rattle.header.specs.Lines.{header_limit};
 ghost use Rattle.header.specs.Keys.{code};
 ghost use Rattle.header.specs.Headers.{Stated, NotStated, Small, InOrder, FirstMisplaced};
 
-use crate::entries::Entries;
+use crate::entries::{Entries, FILE_TYPE};
 use crate::extent::Extent;
 use crate::keys::Key;
 use crate::text::TERMINATOR;
-use shelf::Refusal;
+use shelf::{Reason, Refusal};
 
 // Where the header ends, where its blocks stand, and where the values of two keys stand.
 #[derive(Clone, Copy, PartialEq, Eq)]
@@ -30,7 +30,9 @@ impl Header {
         requires { length head.now ≤ header_limit }
         ensures { MatchResult result (λ h. Stated head.now h) (λ e. NotStated head.now e) }
     {
-        let entries = Entries::read(head)?;
+        let text = head.strip_prefix(FILE_TYPE).ok_or(Reason::NotCphd.at(0))?;
+        let mut entries = Entries::new();
+        entries.read(head, text)?;
         entries.distinct()?;
         entries.complete()?;
         Ok(Header {

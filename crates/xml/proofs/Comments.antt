@@ -1,5 +1,6 @@
 -- Pairs and comments.
-use Rattle.std.proofs.Common.{◌≡◌, ℕ, zero, suc, ◌+◌, ◌<◌, List, [], ◌∷◌, ◌++◌, length, get_or, drop, codes, sym, refl, ap, ◌∙◌, subst, arith}
+use Rattle.std.proofs.Common.{◌≡◌, ℕ, zero, suc, ◌+◌, ◌-◌, ◌<◌, ◌≤◌, List, [], ◌∷◌, ◌++◌, length, get_or, take, drop, codes, sym, refl, ap, ◌∙◌, subst, arith}
+use Rattle.std.proofs.lemmas.Grind.{common_steps}
 use native.Mathlib.Numerals.{unary_clauses}
 use Rattle.xml.specs.Reads.{Form, Literal, Begins, Ends, Missing, Then}
 use Rattle.xml.specs.Grammar.{NoPair}
@@ -68,3 +69,11 @@ comment_same xs ys = (
   λ f. (f.body ++ (45 ∷ 45 ∷ 62 ∷ ys), f.is, (62 ∷ ys, record { body = f.body; first = f.good; is = refl }, refl)),
   λ t. record { body = t.2.1.body; good = t.2.1.first; is = t.1 ∙ ap (λ l. codes "<!--" ++ l) (t.2.1.is ∙ ap (λ l. t.2.1.body ++ (45 ∷ 45 ∷ l)) t.2.2) },
 )
+
+-- what a comment begins with, and the bytes behind it
+pub comment_opens : (xs : List ℕ) → 4 ≤ length xs → get_or xs 0 0 ≡ 60 → get_or xs 1 0 ≡ 33 → get_or xs 2 0 ≡ 45 → get_or xs 3 0 ≡ 45 → xs ≡ codes "<!--" ++ take (length xs - 4) (drop 4 xs)
+comment_opens [] n h i j k = absurd (omega (arith, n))
+comment_opens (a ∷ []) n h i j k = absurd (omega (arith, n))
+comment_opens (a ∷ b ∷ []) n h i j k = absurd (omega (arith, n))
+comment_opens (a ∷ b ∷ c ∷ []) n h i j k = absurd (omega (arith, n))
+comment_opens (a ∷ b ∷ c ∷ d ∷ xs) n h i j k = grind (arith, common_steps)

@@ -44,7 +44,7 @@ module _ (S : List ℕ → Type 0) (d : ℕ) (stop : (ys : List ℕ) → S ys �
   text_step (b ∷ run) xs a = onward Pieces (b ∷ (run ++ xs)) (run ++ xs) xs (byte_step b (run ++ xs) a.0) (text_step run xs a.1)
 
   -- a reference
-  reference_split : (xs ys : List ℕ) → ahead xs ≡ at_reference → Pieces xs ys → Then EntityForm Pieces xs ys
+  pub reference_split : (xs ys : List ℕ) → ahead xs ≡ at_reference → Pieces xs ys → Then EntityForm Pieces xs ys
   reference_split xs ys l f =
       let s = shape_at f.tree d f.good ys xs at_reference (stop ys f.stops) f.is l in
       (content_text s.1 ys, (s.0, f.is ∙ ap (λ c. content_text c ys) s.2), record { tree = s.1; good = subst (λ c. GoodContent c d) s.2 f.good; is = refl; stops = f.stops })
@@ -56,7 +56,7 @@ module _ (S : List ℕ → Type 0) (d : ℕ) (stop : (ys : List ℕ) → S ys �
   reference_none xs l m ys f = let p = reference_split xs ys l f in m p.0 p.1
 
   -- a comment
-  comment_split : (xs ys : List ℕ) → ahead xs ≡ at_comment → Pieces xs ys → Then CommentForm Pieces xs ys
+  pub comment_split : (xs ys : List ℕ) → ahead xs ≡ at_comment → Pieces xs ys → Then CommentForm Pieces xs ys
   comment_split xs ys l f =
       let s = shape_at f.tree d f.good ys xs at_comment (stop ys f.stops) f.is l in
       let g : GoodContent (comment s.0 s.1) d = subst (λ c. GoodContent c d) s.2 f.good in
@@ -69,7 +69,7 @@ module _ (S : List ℕ → Type 0) (d : ℕ) (stop : (ys : List ℕ) → S ys �
   comment_none xs l m ys f = let p = comment_split xs ys l f in m p.0 p.1
 
   -- an element, where nothing else begins and the pieces do not stop
-  element_split : (xs ys : List ℕ) → Stops (ahead xs) → (S xs → ⊥) → Pieces xs ys → Then (ElementForm d) Pieces xs ys
+  pub element_split : (xs ys : List ℕ) → Stops (ahead xs) → (S xs → ⊥) → Pieces xs ys → Then (ElementForm d) Pieces xs ys
   element_split xs ys s n f = go (ahead xs) s (shape_at f.tree d f.good ys xs (ahead xs) (stop ys f.stops) f.is refl)
     where
       none : f.tree ≡ nothing → Then (ElementForm d) Pieces xs ys

@@ -32,7 +32,7 @@ white_step xs ys s = subst (λ l. Same MiscForm l MiscForm ys) (sym s.longest.wh
     go (b ∷ run) a = onward MiscForm (b ∷ (run ++ ys)) (run ++ ys) ys (white_byte b (run ++ ys) a.0) (go run a.1)
 
 -- a comment, and then white space and comments
-note_split : (xs ys : List ℕ) → ahead xs ≡ at_comment → MiscForm xs ys → Then CommentForm MiscForm xs ys
+pub note_split : (xs ys : List ℕ) → ahead xs ≡ at_comment → MiscForm xs ys → Then CommentForm MiscForm xs ys
 note_split xs ys l f = go f.tree f.good f.is
   where
     go : (m : Misc) → GoodMisc m → xs ≡ misc_text m ys → Then CommentForm MiscForm xs ys

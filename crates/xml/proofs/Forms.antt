@@ -6,25 +6,21 @@ use Rattle.xml.specs.Bytes.{AllOf, white, name_start_byte, value_byte}
 use Rattle.xml.specs.Reads.{Form, Literal, begins, Span, Ends, Then}
 use Rattle.xml.specs.Grammar.{IsName}
 use Rattle.xml.specs.Forms.{Named, NameForm, QuotedForm, ValueForm, EndForm}
-use Rattle.xml.proofs.Steps.{span_is, Same, tails, heads, same_run, run_unique, run_stops}
+use Rattle.xml.proofs.Steps.{span_is, Same, tails, heads, same_run, run_stops, first_more}
 
 -- names
-pub name_told : (p : ℕ → Bool) (xs run ys : List ℕ) → LongestRun (λ b. p b ≡ true) xs run ys → 1 ≤ length run → name_start_byte (get_or run 0 0) ≡ true → Named p xs run ys
-name_told p xs run ys l h t = record { good = good run l.all h t; is = l.whole; stops = run_stops p xs run ys l }
+pub name_told : (p : ℕ → Bool) (xs run ys : List ℕ) → LongestRun (λ b. p b ≡ true) xs run ys → 1 ≤ length xs → p (get_or xs 0 0) ≡ true → name_start_byte (get_or xs 0 0) ≡ true → Named p xs run ys
+name_told p xs run ys l h i t = record { good = good run l.all l.whole; is = l.whole; stops = run_stops p xs run ys l }
   where
-    good : (run : List ℕ) → AllOf p run → 1 ≤ length run → name_start_byte (get_or run 0 0) ≡ true → IsName p run
-    good [] a h t = omega (arith, h)
-    good (b ∷ bs) a h t = (t, a.1)
+    good : (run : List ℕ) → AllOf p run → xs ≡ run ++ ys → IsName p run
+    good [] a w = absurd (l.stops (get_or xs 0 0) _ (sym w ∙ first_more xs h) i)
+    good (b ∷ bs) a w = (sym (ap (λ r. name_start_byte (get_or r 0 0)) w) ∙ t, a.1)
 
--- none stands there, where the longest run does not begin as a name does
-pub name_none : (p : ℕ → Bool) (xs run ys : List ℕ) → ((b : ℕ) → name_start_byte b ≡ true → p b ≡ true) → LongestRun (λ b. p b ≡ true) xs run ys → (1 ≤ length run → name_start_byte (get_or run 0 0) ≡ true → ⊥) → (name zs : List ℕ) → Named p xs name zs → ⊥
-name_none p xs run ys sub l unnamed name zs n = go name n.good (run_unique p run name ys zs l.all (all name n.good) (run_stops p xs run ys l) n.stops (sym l.whole ∙ n.is)).0
+-- none stands there, where the text does not begin as a name does
+pub name_none : (p : ℕ → Bool) (xs : List ℕ) → (1 ≤ length xs → name_start_byte (get_or xs 0 0) ≡ true → ⊥) → (name zs : List ℕ) → Named p xs name zs → ⊥
+name_none p xs unnamed name zs n = go name n.good n.is
   where
-    all : (w : List ℕ) → IsName p w → AllOf p w
-    all [] g = absurd g
-    all (b ∷ w) g = (sub b g.0, g.1)
-
-    go : (w : List ℕ) → IsName p w → run ≡ w → ⊥
+    go : (w : List ℕ) → IsName p w → xs ≡ w ++ zs → ⊥
     go [] g e = g
     go (b ∷ w) g e = unnamed (omega (arith, ap length e)) (ap (λ r. name_start_byte (get_or r 0 0)) e ∙ g.0)
 

@@ -1,5 +1,5 @@
 -- What a reader has when a part of a text is read, and the longest runs of one kind of byte.
-use Rattle.std.proofs.Common.{◌≡◌, ◌≢◌, ℕ, ◌+◌, ◌-◌, ◌≤◌, Bool, true, false, eqb, ◌&&◌, fold, Decides, ◌↔◌, List, [], ◌∷◌, ◌++◌, length, get_or, take, drop, Some, None, Option, Bor, sym, refl, ap, ◌∙◌, subst, append_assoc, arith, MatchOption}
+use Rattle.std.proofs.Common.{◌≡◌, ◌≢◌, ℕ, ◌+◌, ◌-◌, ◌≤◌, ◌<◌, Bool, true, false, eqb, ◌&&◌, fold, Decides, ◌↔◌, List, [], ◌∷◌, ◌++◌, length, get_or, take, drop, Some, None, Option, Bor, sym, refl, ap, ◌∙◌, subst, append_assoc, length-append, arith, MatchOption}
 use Rattle.std.specs.List.{AllByRecursion}
 use Rattle.std.proofs.ByRecursion.{All-append}
 use Rattle.std.proofs.lemmas.List.{append_cancel_left, append_cancel_right, take_all}
@@ -96,6 +96,19 @@ longest p xs run ys l = record { run = run; longest = l }
 pub longest_ends : (p : ℕ → Bool) (xs run ys : List ℕ) → LongestRun (λ b. p b ≡ true) xs run ys → Ends (Span p) xs ys
 longest_ends p xs run ys l = let s = longest p xs run ys l in record { is = s; only = λ zs t. span_only p xs ys zs s t }
 
+-- a list is its first byte and the others, as a slice pattern cuts it
+pub first_more : (xs : List ℕ) → 1 ≤ length xs → xs ≡ get_or xs 0 0 ∷ take (length xs - 1) (drop 1 xs)
+first_more [] h = absurd (omega (arith, h))
+first_more (x ∷ xs) h = grind (arith, common_steps)
+
+-- what follows a run is shorter, where a byte of the run stands first
+pub span_forward : (p : ℕ → Bool) (xs ys : List ℕ) → Span p xs ys → 1 ≤ length xs → p (get_or xs 0 0) ≡ true → length ys < length xs
+span_forward p xs ys s h t = go s.run s.longest.whole
+  where
+    go : (run : List ℕ) → xs ≡ run ++ ys → length ys < length xs
+    go [] w = absurd (s.longest.stops (get_or xs 0 0) _ (sym w ∙ first_more xs h) t)
+    go (b ∷ bs) w = omega (arith, ap length w, length-append bs ys)
+
 -- a run goes on in front of one
 pub span_more : (p : ℕ → Bool) (front xs ys : List ℕ) → AllOf p front → Span p xs ys → Span p (front ++ xs) ys
 span_more p front xs ys a s = record {
@@ -119,19 +132,18 @@ all_told p a (b ∷ bs) =
       λ h. more.1 (and_from a (p b) h.0 h.1.0, h.1.1),
     )
 
--- literals: what `strip_prefix` says of one
+-- literals
+pub literal_ends : (bytes xs ys : List ℕ) → xs ≡ bytes ++ ys → Ends (Literal bytes) xs ys
+literal_ends bytes xs ys e = record { is = e; only = λ zs f. append_cancel_left bytes zs ys (sym f ∙ e) }
+
+-- what `strip_prefix` says of one
 pub literal_reads : (bytes xs : List ℕ) (r : Option (Bor (List ℕ))) → MatchOption r (pointwise eqb (take (length bytes) xs) bytes ≡ false) (λ ys. (pointwise eqb (take (length bytes) xs) bytes ≡ true) × (ys.now ≡ drop (length bytes) xs) × (length ys.now + length bytes ≡ length xs)) → Reads (Literal bytes) xs r
 literal_reads bytes xs r cases = go r (strip_prefix_is Decides-eqb xs bytes r cases)
   where
     go : (r : Option (Bor (List ℕ))) → MatchOption r ((ys : List ℕ) → xs ≢ bytes ++ ys) (λ ys. xs ≡ bytes ++ ys.now) → Reads (Literal bytes) xs r
     go None none = none
-    go (Some ys) e = record { is = e; only = λ zs f. append_cancel_left bytes zs ys.now (sym f ∙ e) }
+    go (Some ys) e = literal_ends bytes xs ys.now e
 
 -- what holds of each of the elements up to the end holds of all
 pub all_taken : (P : Bor (List ℕ) → Type 0) (items : List (Bor (List ℕ))) (n : ℕ) → length items ≤ n → AllByRecursion P (take n items) → AllByRecursion P items
 all_taken P items n h a = subst (AllByRecursion P) (take_all n items h) a
-
--- a list is its first byte and the others, as a slice pattern cuts it
-pub first_more : (xs : List ℕ) → 1 ≤ length xs → xs ≡ get_or xs 0 0 ∷ take (length xs - 1) (drop 1 xs)
-first_more [] h = absurd (omega (arith, h))
-first_more (x ∷ xs) h = grind (arith, common_steps)

@@ -15,22 +15,24 @@ pub(crate) enum Class {
     Value(u8),
 }
 
+// These tests are written without `matches!`: by it names of digits take three times as long, and attributes half as long again.
+
 fn is_white(b: u8) -> bool
     ensures { result ≡ white b }
 {
-    matches!(b, b' ' | b'\t' | b'\n' | b'\r')
+    b == b' ' || b == b'\t' || b == b'\n' || b == b'\r'
 }
 
 pub(crate) fn starts_name(b: u8) -> bool
     ensures { result ≡ name_start_byte b }
 {
-    matches!(b, b'A'..=b'Z' | b'a'..=b'z' | b'_')
+    b.is_ascii_alphabetic() || b == b'_'
 }
 
 fn is_in_name(b: u8) -> bool
     ensures { result ≡ name_byte b }
 {
-    starts_name(b) || matches!(b, b'0'..=b'9' | b'-' | b'.')
+    starts_name(b) || b >= b'0' && b <= b'9' || b == b'-' || b == b'.'
 }
 
 pub(crate) fn is_text(b: u8) -> bool

@@ -19,7 +19,7 @@ pub(crate) fn skip(text: &[u8]) -> Option<&[u8]>
     let mut left = text;
     loop {
         left = match left {
-            [b, more @ ..] if is_text(*b) => past_text(more),
+            [b, ..] if is_text(*b) => past_text(left),
             [b'&', ..] => reference(left)?,
             [b'<', b'!', ..] => comment(left)?,
             _ => return Some(left),

@@ -11,7 +11,7 @@ separated c = strip_prefix_is Decides-eqb _ (32 ∷ 58 ∷ 61 ∷ 32 ∷ []) (So
 
 -- and the line feed behind the value
 ended : (c : In_ok-rest) → c.split-2.result.1.now ≡ (10 ∷ []) ++ c.in_ok-rest.rest.now
-ended c = strip_prefix_is Decides-eqb _ (10 ∷ []) (Some c.in_ok-rest.rest) c.in_ok-rest.ensures.cases
+ended c = c.in_ok-rest.ensures
 
 pub returns-in_err-strip_prefix : goal.returns-in_err-strip_prefix
 returns-in_err-strip_prefix c =
@@ -20,7 +20,7 @@ returns-in_err-strip_prefix c =
 pub returns-in_err-rest : goal.returns-in_err-rest
 returns-in_err-rest c =
     rw c.from_residual-in_err-rest.ensures
-    (none_no_line_feed c.split.ensures (separated (goal.at.returns-in_err-rest c).In_ok-strip_prefix) c.split-2.ensures (strip_prefix_is Decides-eqb _ (10 ∷ []) None c.in_err-rest.ensures.cases))
+    (none_no_line_feed c.split.ensures (separated (goal.at.returns-in_err-rest c).In_ok-strip_prefix) c.split-2.ensures c.in_err-rest.ensures)
 
 pub returns-then-is_empty : goal.returns-then-is_empty
 returns-then-is_empty c =

@@ -1,7 +1,8 @@
-use Rattle.std.proofs.Common.{rules, ◌≡◌, ℕ, ◌-◌, List, [], ◌∷◌, None, Some, arith}
+use Rattle.std.proofs.Common.{rules, ◌≡◌, ℕ, ◌-◌, List, [], ◌∷◌, None, Some, subst, arith}
 use Rattle.xml.specs.Ahead.{at_end_tag, ahead}
 use Rattle.xml.specs.Reads.{Form, Literal, Then}
 use Rattle.xml.specs.Forms.{EndForm, ContentForm}
+use Rattle.xml.specs.Elements.{FirstElement}
 use Rattle.xml.proofs.Steps.{reads_as, reads_none, reads_then, missing_first, onward, literal_reads}
 use Rattle.xml.proofs.Contents.{skip_within, content_within, content_ends, close_stops, skip_same, skip_none, element_step, element_none}
 use Rattle.xml.proofs.Elements.{no_depth, no_element, answer_none, element_ends, element_forward, empty_element, full_element, refused}
@@ -92,10 +93,11 @@ element-returns-in_err-rest t c =
     (reads_then (ContentForm (d - 1)) (EndForm name) inner.now _ None c.in_ok-close.ensures c.in_err-rest.ensures))
 
 pub element-slice_bounds-content-count : goal.element-slice_bounds-content-count
-element-slice_bounds-content-count t c = content_within _ _ _ c.in_ok-close.ensures.is
+element-slice_bounds-content-count t c = let within = content_within _ _ _ c.in_ok-close.ensures.is in omega arith
 
 pub element-returns : goal.element-returns
 element-returns t c =
     let tag = c.in_ok-name.tag.now in
     let inner = c.in_ok-inner.inner in
-    full_element c.args.text.now _ tag c.in_ok-name.ensures c.args.depth inner.now _ _ (omega arith) (literal_reads (62 ∷ []) tag (Some inner) c.in_ok-inner.ensures.cases).is c.in_ok-close.ensures.is c.in_ok-rest.ensures.is
+    subst (λ held. FirstElement c.args.depth c.args.text.now c.in_ok-name.name.now held c.in_ok-rest.rest.now) (search rules)
+    (full_element c.args.text.now _ tag c.in_ok-name.ensures c.args.depth inner.now _ _ (omega arith) (literal_reads (62 ∷ []) tag (Some inner) c.in_ok-inner.ensures.cases).is c.in_ok-close.ensures.is c.in_ok-rest.ensures.is)

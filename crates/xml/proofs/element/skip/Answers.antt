@@ -1,8 +1,8 @@
-use Rattle.std.proofs.Common.{rules, ◌≡◌, ℕ, List, ◌∷◌, get_or, true, None, Some, sym, ap, ◌∙◌, subst}
+use Rattle.std.proofs.Common.{rules, ◌≡◌, ℕ, List, None, Some, sym, subst}
 use Rattle.xml.specs.Bytes.{text_byte}
 use Rattle.xml.specs.Ahead.{at_reference, at_comment, ahead, Stops}
 use Rattle.xml.specs.Forms.{SkipForm}
-use Rattle.xml.proofs.Steps.{Same, reads_as, reads_none, onward, first_more}
+use Rattle.xml.proofs.Steps.{Same, reads_as, reads_none, onward, span_forward}
 use Rattle.xml.proofs.Contents.{text_step, reference_step, reference_none, comment_step, comment_none, skip_ends}
 use Rattle.xml.proofs.element.skip.Goals as goal
 
@@ -10,15 +10,15 @@ use Rattle.xml.proofs.element.skip.Goals as goal
 abbrev Stop : List ℕ → Type 0
 Stop ys = Stops (ahead ys)
 
+pub loop-left-smaller-in-len1-up : goal.loop-left-smaller-in-len1-up
+loop-left-smaller-in-len1-up c = span_forward text_byte c.loop-left.left.now _ c.past_text-left.ensures c.in-len1-up.len_at_least (search rules)
+
 pub loop-left-preserved-in-len1-up : goal.loop-left-preserved-in-len1-up
 loop-left-preserved-in-len1-up c =
     let left = c.loop-left.left.now in
-    let b = get_or left 0 0 in
-    let text : text_byte b ≡ true = search rules in
     let s = c.past_text-left.ensures in
     let P : List ℕ → Type 0 = λ l. Same SkipForm l SkipForm c.past_text-left.result.now in
-    let is = first_more left c.in-len1-up.len_at_least ∙ ap (λ l. b ∷ l) s.longest.whole in
-    onward SkipForm _ left _ c.loop-left.invariant (subst P (sym is) (text_step Stop 0 (λ ys z. z) (b ∷ s.run) _ (text, s.longest.all)))
+    onward SkipForm _ left _ c.loop-left.invariant (subst P (sym s.longest.whole) (text_step Stop 0 (λ ys z. z) s.run _ s.longest.all))
 
 pub returns-in_err-left-in-38 : goal.returns-in_err-left-in-38
 returns-in_err-left-in-38 c =

@@ -1,4 +1,4 @@
-use Rattle.std.proofs.Common.{[], ◌∷◌, Some, None}
+use Rattle.std.proofs.Common.{rules, [], ◌∷◌, Some, None}
 use Rattle.xml.specs.Bytes.{white}
 use Rattle.xml.specs.Reads.{Form, Literal, Span, Then}
 use Rattle.xml.specs.Forms.{EndForm}
@@ -17,7 +17,7 @@ returns-in_err-rest-2 c =
     reads_none (EndForm name) text _ c.from_residual-in_err-rest-2.ensures
     (reads_as (EndChain name) (EndForm name) text text None (end_same name text)
     (reads_then (Literal (60 ∷ 47 ∷ [])) (Then (Literal name) Close) text rest.now None (literal_reads (60 ∷ 47 ∷ []) text (Some rest) c.in_ok-rest.ensures.cases)
-    (missing_first (Literal name) Close rest.now (literal_reads name rest.now None c.in_err-rest-2.ensures.cases))))
+    (missing_first (Literal name) Close rest.now (literal_reads name rest.now None (search rules)))))
 
 pub returns : goal.returns
 returns c =
@@ -28,5 +28,5 @@ returns c =
     let close = c.past_white.result.now in
     reads_as (EndChain name) (EndForm name) text text _ (end_same name text)
     (reads_then (Literal (60 ∷ 47 ∷ [])) (Then (Literal name) Close) text rest.now _ (literal_reads (60 ∷ 47 ∷ []) text (Some rest) c.in_ok-rest.ensures.cases)
-    (reads_then (Literal name) Close rest.now space.now _ (literal_reads name rest.now (Some space) c.in_ok-rest-2.ensures.cases)
+    (reads_then (Literal name) Close rest.now space.now _ (literal_reads name rest.now (Some space) (search rules))
     (reads_then (Span white) (Literal (62 ∷ [])) space.now close _ c.past_white.ensures (literal_reads (62 ∷ []) close _ c.strip_prefix-3.ensures.cases))))

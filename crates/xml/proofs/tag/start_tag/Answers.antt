@@ -1,4 +1,5 @@
-use Rattle.std.proofs.Common.{ℕ, List, [], ◌∷◌, Some, None}
+use Rattle.std.proofs.Common.{rules, ◌≡◌, ℕ, ◌≤◌, List, [], ◌∷◌, length, take, Some, None, subst}
+use Rattle.std.proofs.lemmas.List.{take_all}
 use Rattle.xml.specs.Bytes.{name_byte}
 use Rattle.xml.specs.Forms.{NameForm, TailForm, Start}
 use Rattle.xml.proofs.Steps.{missing_first, reads_then, literal_reads, cases_none}
@@ -30,4 +31,8 @@ pub returns : goal.returns
 returns c =
     let text = c.args.text.now in
     let body = c.in_ok-text.text in
-    start_read text body.now _ _ _ (literal_reads (60 ∷ []) text (Some body) c.in_ok-text.ensures.cases).is c.in_ok-name.ensures c.in_ok-tail.ensures.is
+    let name = c.in_ok-name.name.now in
+    let rest = c.in_ok-tail.field-0.now in
+    -- what a slice of all of the name holds
+    let whole : (n : ℕ) → length name ≤ n → take n name ≡ name = λ n. take_all n name in
+    subst (λ told. Start text told rest) (search rules) (start_read text body.now name _ rest (literal_reads (60 ∷ []) text (Some body) c.in_ok-text.ensures.cases).is c.in_ok-name.ensures c.in_ok-tail.ensures.is)

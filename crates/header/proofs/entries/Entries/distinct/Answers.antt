@@ -9,7 +9,7 @@ use Rattle.header.proofs.entries.Entries.distinct.Goals.{After-find_key}
 
 -- whether the key of this line stood before
 repeats : (c : After-find_key) → Decides (is_some c.find_key.result) (Repeats (map line_of c.as_slice-entries.result.now) c.loop-j.j)
-repeats c = stood_before c.as_slice-entries.result.now c.loop-j.j _ c.find_key.result (omega arith) refl c.find_key.ensures
+repeats c = stood_before c.as_slice-entries.result.now _ c.loop-j.j _ c.find_key.result (grind arith) (omega arith) refl c.find_key.ensures
 
 pub returns-then-is_some : goal.returns-then-is_some
 returns-then-is_some c =

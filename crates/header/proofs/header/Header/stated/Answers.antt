@@ -1,4 +1,4 @@
-use Rattle.std.proofs.Common.{refl, arith}
+use Rattle.std.proofs.Common.{rules, refl, arith}
 use Rattle.header.specs.declared.keys.Key.TheVariants.{XmlSize, XmlPlace, SupportSize, SupportPlace, PvpSize, PvpPlace, SignalSize, SignalPlace, Classification, ReleaseInfo}
 use Rattle.header.specs.Entries.{lines_of}
 use Rattle.shelf.specs.declared.refusal.Refusal.{Refusal}
@@ -10,14 +10,17 @@ use Rattle.header.proofs.Numbers.{RightBelow, right_none, block_more, support_mo
 use Rattle.header.proofs.header.Header.stated.Goals as goal
 use Rattle.header.proofs.header.Header.stated.Goals.{In_ok-complete, In_ok-block, In_ok-support, In_ok-block-2}
 
-pub returns-in_err-entries : goal.returns-in_err-entries
-returns-in_err-entries c = exit _ _ _ _ c.from_residual.ensures.1 (lines c.in_err-entries.ensures)
+pub returns-in_err-text : goal.returns-in_err-text
+returns-in_err-text c = exit _ _ _ _ c.from_residual.ensures.1 (lines (search rules))
+
+pub returns-in_err-read : goal.returns-in_err-read
+returns-in_err-read c = exit _ _ _ _ c.from_residual-in_err-read.ensures.1 (lines c.in_err-read.ensures)
 
 pub returns-in_err-distinct : goal.returns-in_err-distinct
-returns-in_err-distinct c = exit _ _ _ _ c.from_residual-in_err-distinct.ensures.1 (repeated _ _ c.in_ok-entries.ensures c.in_err-distinct.ensures)
+returns-in_err-distinct c = exit _ _ _ _ c.from_residual-in_err-distinct.ensures.1 (repeated _ _ c.in_ok-read.ensures c.in_err-distinct.ensures)
 
 pub returns-in_err-complete : goal.returns-in_err-complete
-returns-in_err-complete c = exit _ _ _ _ c.from_residual-in_err-complete.ensures.1 (missing _ _ c.in_ok-entries.ensures c.in_ok-distinct.ensures c.in_err-complete.ensures)
+returns-in_err-complete c = exit _ _ _ _ c.from_residual-in_err-complete.ensures.1 (missing _ _ c.in_ok-read.ensures c.in_ok-distinct.ensures c.in_err-complete.ensures)
 
 pub block-requires : goal.block-requires
 block-requires c = record { size = λ a. c.in_ok-complete.ensures XmlSize (a, tt); place = λ a. c.in_ok-complete.ensures XmlPlace (a, tt) }
@@ -35,18 +38,18 @@ pub extent-requires-2 : goal.extent-requires-2
 extent-requires-2 c = λ a. c.in_ok-complete.ensures ReleaseInfo (a, tt)
 
 -- after each block the numbers so far are right
-below3 : (c : In_ok-block) → RightBelow (lines_of c.in_ok-entries.entries) 3
+below3 : (c : In_ok-block) → RightBelow (lines_of c.read.new.self) 3
 below3 c = block_more _ c.in_ok-distinct.ensures XmlSize XmlPlace refl (right_none _) _ c.in_ok-block.ensures
 
-below5 : (c : In_ok-support) → RightBelow (lines_of c.in_ok-entries.entries) 5
+below5 : (c : In_ok-support) → RightBelow (lines_of c.read.new.self) 5
 below5 c = support_more _ c.in_ok-distinct.ensures _ (below3 (goal.at.In_ok-support c).In_ok-block) c.in_ok-support.ensures
 
-below7 : (c : In_ok-block-2) → RightBelow (lines_of c.in_ok-entries.entries) 7
+below7 : (c : In_ok-block-2) → RightBelow (lines_of c.read.new.self) 7
 below7 c = block_more _ c.in_ok-distinct.ensures PvpSize PvpPlace refl (below5 (goal.at.In_ok-block-2 c).In_ok-support) _ c.in_ok-block-2.ensures
 
 -- what the refusal of a number says of the header
-numbers : (c : In_ok-complete) (e : Refusal) → NumbersRefused (lines_of c.in_ok-entries.entries) e → NotStated c.args.head.now e
-numbers c e r = not_number _ _ c.in_ok-entries.ensures c.in_ok-distinct.ensures c.in_ok-complete.ensures r
+numbers : (c : In_ok-complete) (e : Refusal) → NumbersRefused (lines_of c.read.new.self) e → NotStated c.args.head.now e
+numbers c e r = not_number _ _ c.in_ok-read.ensures c.in_ok-distinct.ensures c.in_ok-complete.ensures r
 
 pub returns-in_err-block : goal.returns-in_err-block
 returns-in_err-block c =
